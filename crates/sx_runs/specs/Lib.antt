@@ -1,0 +1,4 @@
+pub mod Machine
+pub mod Ending
+pub mod Performs
+pub mod Simulation

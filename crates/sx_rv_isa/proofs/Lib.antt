@@ -1,0 +1,5 @@
+pub mod Ranges
+pub mod Pack
+pub mod TableRows
+pub mod Back
+pub mod Forth
