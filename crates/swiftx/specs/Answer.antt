@@ -1,0 +1,80 @@
+-- What each outcome of a call says.
+use Rattle.std.specs.Prelude.{◌≡◌, ◌⊎◌, ℕ, ◌≤◌, List, [], ◌∷◌, option_map}
+use Rattle.sx_io.specs.Outside.{Call, reading, Rose}
+use Rattle.sx_runs.specs.Machine.{after}
+use Rattle.sx_rv_machine.specs.Put.{Told, Grew}
+use Rattle.sx_rv_machine.specs.State.{State}
+use Rattle.swiftx.specs.Commands.{Run, IsCommand}
+use Rattle.swiftx.specs.Due.{Due, IsDue}
+use Rattle.swiftx.specs.Outside.{Outside, Asked, CutShort}
+use Rattle.swiftx.specs.Target.{target}
+use Rattle.swiftx.specs.declared.outcome.Outcome.{Outcome}
+use Rattle.swiftx.specs.declared.outcome.Outcome.TheVariants.{Exited, Usage, Refused, Budget, StoreFault, SinkFault, NoMemory}
+use Rattle.swiftx.specs.declared.bench.Bench.{Bench}
+
+-- the machine of a file after so many steps
+abbrev pub stands : List ℕ → ℕ → State
+stands file steps = (after (target file) steps).state
+
+-- the bench has the file that was built, and the machine that ran as it stands after so many steps
+pub record OnBench (bench : Bench) (due : Due) (taken : ℕ) : Type 0 where
+  pub built : option_map (λ b. b.bytes.items) bench.built ≡ due.built
+  pub machine : bench.machine ≡ option_map (λ file. stands file taken) due.ran
+
+-- no put failed: the outcome and the outputs are those that are due, and the machine has taken all its steps
+pub record Completed (due : Due) (out out' err err' : Told) (bench : Bench) (outcome : Outcome) : Type 0 where
+  pub answers : outcome ≡ due.outcome
+  pub out_grew : Grew out out' due.out
+  pub err_grew : Grew err err' due.err
+  pub bench_holds : OnBench bench due due.steps
+
+-- a put failed: each output has a front of what was due, and the machine stands right after the step that wrote
+pub record Broken (due : Due) (out out' err err' : Told) (bench : Bench) : Type 0 where
+  pub outputs : CutShort out out' err err' due.out due.err
+  pub taken : ℕ
+  pub within : taken ≤ due.steps
+  pub bench_holds : OnBench bench due taken
+
+-- the store's count rose exactly where its fault is due
+abbrev pub StoreCount : Outcome → ℕ → ℕ → Type 0
+StoreCount StoreFault before now = Rose before now
+StoreCount (Exited status) before now = now ≡ before
+StoreCount Usage before now = now ≡ before
+StoreCount (Refused fault) before now = now ≡ before
+StoreCount Budget before now = now ≡ before
+StoreCount SinkFault before now = now ≡ before
+StoreCount NoMemory before now = now ≡ before
+
+-- all that was due was done
+pub record IsDone (words : List (List ℕ)) (old new : Outside) (bench : Bench) (outcome : Outcome) : Type 0 where
+  pub due : Due
+  pub calls : List Call
+  pub is : IsDue words old.files due calls
+  pub asked : Asked old new calls
+  pub store : StoreCount due.outcome old.store_faults new.store_faults
+  pub all : Completed due old.out new.out old.err new.err bench outcome
+
+-- something was due, and a put failed
+pub record IsCut (words : List (List ℕ)) (old new : Outside) (bench : Bench) : Type 0 where
+  pub due : Due
+  pub calls : List Call
+  pub is : IsDue words old.files due calls
+  pub asked : Asked old new calls
+  pub store : StoreCount due.outcome old.store_faults new.store_faults
+  pub part : Broken due old.out new.out old.err new.err bench
+
+-- memory ran out: nothing was written and nothing failed, and the store was asked at most for the file
+pub record HasNoMemory (words : List (List ℕ)) (old new : Outside) : Type 0 where
+  pub out : Grew old.out new.out []
+  pub err : Grew old.err new.err []
+  pub store : new.store_faults ≡ old.store_faults
+  pub asked : Asked old new [] ⊎ (name : List ℕ) × (steps : ℕ) × IsCommand words (Run name steps) × Asked old new (reading name ∷ [])
+
+abbrev pub Answered : List (List ℕ) → Outside → Outside → Bench → Outcome → Type 0
+Answered words old new bench Usage = IsDone words old new bench Usage
+Answered words old new bench (Refused fault) = IsDone words old new bench (Refused fault)
+Answered words old new bench (Exited status) = IsDone words old new bench (Exited status)
+Answered words old new bench Budget = IsDone words old new bench Budget
+Answered words old new bench StoreFault = IsDone words old new bench StoreFault
+Answered words old new bench SinkFault = IsCut words old new bench
+Answered words old new bench NoMemory = HasNoMemory words old new

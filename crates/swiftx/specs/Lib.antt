@@ -1,0 +1,13 @@
+pub mod Prints
+pub mod Found
+pub mod Source
+pub mod PrintCode
+pub mod Target
+pub mod Commands
+pub mod Words
+pub mod Outside
+pub mod Lines
+pub mod Due
+pub mod Answer
+pub mod Parts
+pub mod Status

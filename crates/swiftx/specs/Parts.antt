@@ -1,0 +1,44 @@
+-- What the parts of a call do, in the words of the whole.
+use Rattle.std.specs.Prelude.{◌≡◌, ◌⊎◌, ℕ, List, [], Some}
+use Rattle.sx_runs.specs.Machine.{shown}
+use Rattle.sx_runs.specs.Performs.{Performs}
+use Rattle.sx_rv_machine.specs.Put.{Told, Grew, BrokeOff}
+use Rattle.swiftx.specs.Answer.{Completed, Broken}
+use Rattle.swiftx.specs.Due.{Due, TextDue, run_due, ends_as}
+use Rattle.swiftx.specs.Source.{source}
+use Rattle.swiftx.specs.Target.{target}
+use Rattle.swiftx.specs.declared.outcome.Outcome.{Outcome}
+use Rattle.swiftx.specs.declared.outcome.Outcome.TheVariants.{SinkFault, NoMemory}
+use Rattle.swiftx.specs.declared.bench.Bench.{Bench}
+
+-- the line stands at the end of the second output, or its put failed
+abbrev pub Said : Outcome → Outcome → List ℕ → Told → Told → Type 0
+Said about result line err err' = ((result ≡ about) × Grew err err' line) ⊎ ((result ≡ SinkFault) × BrokeOff err err' [] line)
+
+-- all of what was due, or a put failed
+abbrev pub Settled : Due → Told → Told → Told → Told → Bench → Outcome → Type 0
+Settled due out out' err err' bench result = Completed due out out' err err' bench result ⊎ ((result ≡ SinkFault) × Broken due out out' err err' bench)
+
+-- memory ran out, and nothing was written
+pub record RanOut (out out' err err' : Told) (result : Outcome) : Type 0 where
+  pub answers : result ≡ NoMemory
+  pub out_same : Grew out out' []
+  pub err_same : Grew err err' []
+
+-- a file's machine ran, or a put failed
+pub record FileSettled (file : List ℕ) (steps : ℕ) (out out' err err' : Told) (bench : Bench) (result : Outcome) : Type 0 where
+  pub outcome : Outcome
+  pub ends : ends_as outcome ≡ Some (shown (target file) steps).ending
+  pub settled : Settled (run_due outcome file steps) out out' err err' bench result
+
+-- some literals were built and their file's machine ran
+pub record PrintsSettled (literals : List (List ℕ)) (steps : ℕ) (out out' err err' : Told) (bench : Bench) (result : Outcome) : Type 0 where
+  pub file : List ℕ
+  pub performs : Performs (source literals) (target file)
+  pub settled : FileSettled file steps out out' err err' bench result
+
+-- what was due for a text was settled
+pub record TextSettled (text : List ℕ) (steps : ℕ) (out out' err err' : Told) (bench : Bench) (result : Outcome) : Type 0 where
+  pub due : Due
+  pub is : TextDue text steps due
+  pub settled : Settled due out out' err err' bench result

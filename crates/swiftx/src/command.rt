@@ -1,0 +1,102 @@
+//! Command lines.
+ghost use Rattle.std.specs.Prelude.{◌≡◌, ℕ, List, map, string_bytes, IfSome, IfNone, IsTrue, ◌↔◌};
+ghost use Rattle.swiftx.specs.Commands.{IsFileName, IsStepLimit, IsCommand, Command as CommandLine, default_steps, greatest_steps};
+ghost use Rattle.std.specs.Str.{all_ascii_digits};
+ghost use Rattle.swiftx.specs.Words.{texts, meaning, IsNamed, IsPlainNumeral};
+
+/// What the words ask for: to compile the text in a file, and to run it.
+#[derive(Clone, Copy, Debug, PartialEq, Eq)]
+pub struct Command<'a> {
+    /// The name of the file.
+    pub file: &'a str,
+    /// The greatest number of machine steps.
+    pub steps: u64,
+}
+
+/// The limit of steps where the words tell none.
+pub const DEFAULT_STEPS: u64 = 200_000_000;
+
+/// The greatest limit of steps.
+pub const GREATEST_STEPS: u64 = 9_223_372_036_854_775_807;
+
+/// The command of some words, and None exactly where they are no command line.
+pub fn command_of(words: &[String]) -> Option<Command<'_>>
+    ensures some { IfSome result (λ command. IsCommand (texts words.now) (meaning command)) }
+    ensures none { IfNone result ((command : CommandLine) → IsCommand (texts words.now) command → ⊥) }
+{
+    match words {
+        [name, file] => with_file(name, file, DEFAULT_STEPS),
+        [name, file, option, number] => {
+            if option.as_str() != "--steps" {
+                return None;
+            }
+            match step_limit(number) {
+                Some(steps) => with_file(name, file, steps),
+                None => None,
+            }
+        }
+        _ => None,
+    }
+}
+
+fn with_file<'a>(name: &str, file: &'a str, steps: u64) -> Option<Command<'a>>
+    ensures some { IfSome result (λ command. IsNamed name.now file.now steps (meaning command)) }
+    ensures none { IfNone result ((command : CommandLine) → IsNamed name.now file.now steps command → ⊥) }
+{
+    if !is_file_name(file) {
+        return None;
+    }
+    if name == "run" {
+        Some(Command { file, steps })
+    } else {
+        None
+    }
+}
+
+fn is_file_name(word: &str) -> bool
+    ensures { IsTrue result ↔ IsFileName word.now }
+{
+    !matches!(word.as_bytes(), [] | [b'-', ..])
+}
+
+// The number of a numeral without a leading zero, up to the greatest limit.
+fn step_limit(word: &str) -> Option<u64>
+    ensures some { IfSome result (λ steps. IsStepLimit word.now steps) }
+    ensures none { IfNone result ((steps : ℕ) → IsStepLimit word.now steps → ⊥) }
+{
+    if !is_numeral(word) {
+        return None;
+    }
+    match word.parse::<u64>() {
+        Ok(steps) => {
+            if steps <= GREATEST_STEPS {
+                Some(steps)
+            } else {
+                None
+            }
+        }
+        Err(_) => None,
+    }
+}
+
+// Whether the word is decimal digits without a leading zero.
+fn is_numeral(word: &str) -> bool
+    ensures { IsTrue result ↔ IsPlainNumeral word.now }
+{
+    let digits = word.as_bytes();
+    if digits.is_empty() || (digits[0] == b'0' && digits.len() > 1) {
+        return false;
+    }
+    is_all_digits(digits)
+}
+
+fn is_all_digits(digits: &[u8]) -> bool
+    ensures { result ≡ all_ascii_digits digits.now }
+{
+    for digit in digits {
+        if !digit.is_ascii_digit() {
+            return false;
+        }
+    }
+    true
+}

@@ -1,0 +1,236 @@
+//! The top call over stores and sinks in memory.
+use crate::bench::Bench;
+use crate::outcome::{Fault, Outcome, code};
+use crate::top::swiftx;
+use std::alloc::{AllocError, Global};
+use std::process::Abort;
+use std::test::Fail;
+use sx_io::{MemSink, MemStore, NoMemory};
+use sx_rv_machine::pc;
+
+const USAGE: &[u8] =
+    b"usage: swiftx check FILE | build FILE -o OUT | run FILE [--steps N] | exec ELF [--steps N] | trace FILE [--steps N] | report FILE | chain FILE --at N | work N\n";
+
+/// What is outside in a test: a store and two sinks, and the bench.
+#[derive(Drop)]
+struct Desk {
+    store: MemStore,
+    out: MemSink,
+    err: MemSink,
+    bench: Bench,
+}
+
+impl Desk {
+    /// A store with one file; the calls of the store, out and err that are to fail, by their numbers.
+    fn with(
+        alloc: Global,
+        file: &str,
+        text: &[u8],
+        failing: [Option<u64>; 3],
+    ) -> Result<Desk, Fail> {
+        let mut files = Vec::new(alloc);
+        files.push((String::from_str(alloc, file)?, text.to_vec(alloc)?))?;
+        let [store, out, err] = failing;
+        Ok(Desk {
+            store: MemStore::new(alloc, files, numbers(alloc, store)?),
+            out: sink(alloc, numbers(alloc, out)?)?,
+            err: sink(alloc, numbers(alloc, err)?)?,
+            bench: Bench::new(),
+        })
+    }
+
+    fn call(&mut self, alloc: Global, line: &str) -> Result<Outcome, Fail> {
+        let mut words = Vec::new(alloc);
+        for word in line.split_whitespace() {
+            words.push(String::from_str(alloc, word)?)?;
+        }
+        Ok(swiftx(
+            alloc,
+            &words,
+            &mut self.store,
+            &mut self.out,
+            &mut self.err,
+            &mut self.bench,
+        ))
+    }
+}
+
+fn numbers(alloc: Global, number: Option<u64>) -> Result<Vec<u64>, AllocError> {
+    let mut all = Vec::new(alloc);
+    if let Some(number) = number {
+        all.push(number)?;
+    }
+    Ok(all)
+}
+
+fn sink(alloc: Global, failing: Vec<u64>) -> Result<MemSink, Fail> {
+    match MemSink::new(alloc, 1000, failing) {
+        Ok(sink) => Ok(sink),
+        Err(NoMemory) => Err(Fail::from(AllocError)),
+    }
+}
+
+fn ends(
+    rt: &impl Abort,
+    alloc: Global,
+    line: &str,
+    file: &str,
+    text: &[u8],
+    outcome: Outcome,
+    out: &[u8],
+    err: &[u8],
+) -> Result<(), Fail> {
+    let mut desk = Desk::with(alloc, file, text, [None, None, None])?;
+    assert_eq!(rt; desk.call(alloc, line)?, outcome, "{line}");
+    assert_eq!(rt; desk.out.bytes_now().as_slice(), out, "{line}");
+    assert_eq!(rt; desk.err.bytes_now().as_slice(), err, "{line}");
+    Ok(())
+}
+
+#[test]
+fn texts_of_prints_run(rt: HostRuntime) -> Result<(), Fail> {
+    let done = Outcome::Exited(0);
+    ends(
+        &rt,
+        rt.alloc(),
+        "run hello.swift",
+        "hello.swift",
+        b"print(\"hello\")",
+        done,
+        b"hello\n",
+        b"",
+    )?;
+    ends(
+        &rt,
+        rt.alloc(),
+        "run a.swift",
+        "a.swift",
+        b"",
+        done,
+        b"",
+        b"",
+    )?;
+    let two = b"print(\"a b~\")\nprint(\"\")\n";
+    ends(
+        &rt,
+        rt.alloc(),
+        "run a.swift --steps 19",
+        "a.swift",
+        two,
+        done,
+        b"a b~\n\n",
+        b"",
+    )?;
+    ends(
+        &rt,
+        rt.alloc(),
+        "run a.swift --steps 18",
+        "a.swift",
+        two,
+        Outcome::Budget,
+        b"a b~\n\n",
+        b"",
+    )?;
+    ends(
+        &rt,
+        rt.alloc(),
+        "run a.swift --steps 8",
+        "a.swift",
+        two,
+        Outcome::Budget,
+        b"a b~\n",
+        b"",
+    )
+}
+
+#[test]
+fn other_texts_are_refused(rt: HostRuntime) -> Result<(), Fail> {
+    let refused = Outcome::Refused(Fault::Unbuilt);
+    for text in [
+        "print(1)",
+        "\n",
+        "print(\"a\")\n\n",
+        "print(\"\\n\")",
+        "print(\"a\") ",
+    ] {
+        ends(
+            &rt,
+            rt.alloc(),
+            "run a.swift",
+            "a.swift",
+            text.as_bytes(),
+            refused,
+            b"",
+            b"error unbuilt\n",
+        )?;
+    }
+    Ok(())
+}
+
+#[test]
+fn other_words_are_told_the_usage(rt: HostRuntime) -> Result<(), Fail> {
+    let lines = [
+        "",
+        "run",
+        "run -a",
+        "run a.swift --steps 01",
+        "run a.swift --steps",
+        "work 901",
+    ];
+    for line in lines {
+        ends(
+            &rt,
+            rt.alloc(),
+            line,
+            "a.swift",
+            b"",
+            Outcome::Usage,
+            b"",
+            USAGE,
+        )?;
+    }
+    Ok(())
+}
+
+#[test]
+fn a_failed_read_is_told(rt: HostRuntime) -> Result<(), Fail> {
+    let alloc = rt.alloc();
+    let mut desk = Desk::with(alloc, "b.swift", b"", [None, None, None])?;
+    assert_eq!(rt; desk.call(alloc, "run a.swift")?, Outcome::StoreFault);
+    assert_eq!(rt;
+        desk.err.bytes_now().as_slice(),
+        b"store fault\n".as_slice()
+    );
+    assert_eq!(rt; desk.store.fault_count(), 1);
+    assert_eq!(rt; desk.store.asked_now().len(), 1);
+    Ok(())
+}
+
+#[test]
+fn a_failed_write_ends_the_call(rt: HostRuntime) -> Result<(), Fail> {
+    let alloc = rt.alloc();
+    let text = b"print(\"hello\")\nprint(\"again\")";
+    let mut desk = Desk::with(alloc, "a.swift", text, [None, Some(1), None])?;
+    assert_eq!(rt; desk.call(alloc, "run a.swift")?, Outcome::SinkFault);
+    assert_eq!(rt; desk.out.bytes_now().len(), 0);
+    assert_eq!(rt; desk.out.fault_count(), 1);
+    assert!(rt; desk.bench.built.is_some());
+    match &desk.bench.machine {
+        Some(machine) => assert_eq!(rt; pc(machine), 0x1_001c, "behind the call that wrote"),
+        None => panic!(rt; "no machine"),
+    }
+    let mut desk = Desk::with(alloc, "a.swift", text, [None, None, Some(1)])?;
+    assert_eq!(rt; desk.call(alloc, "")?, Outcome::SinkFault);
+    Ok(())
+}
+
+#[test]
+fn each_outcome_has_its_status(rt: HostRuntime) {
+    assert_eq!(rt; code(&Outcome::Exited(70)), 70);
+    assert_eq!(rt; code(&Outcome::Usage), 2);
+    assert_eq!(rt; code(&Outcome::StoreFault), 3);
+    assert_eq!(rt; code(&Outcome::SinkFault), 4);
+    assert_eq!(rt; code(&Outcome::Refused(Fault::Unbuilt)), 5);
+    assert_eq!(rt; code(&Outcome::Budget), 7);
+    assert_eq!(rt; code(&Outcome::NoMemory), 9);
+}

@@ -1,0 +1,5 @@
+pub mod Failing
+pub mod Headers
+pub mod Passing
+pub mod Memory
+pub mod Written

@@ -1,0 +1,5 @@
+pub mod AddressMap
+pub mod Fields
+pub mod Tests
+pub mod Loading
+pub mod Layout

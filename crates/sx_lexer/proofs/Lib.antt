@@ -1,0 +1,15 @@
+pub mod Runs
+pub mod Values
+pub mod CommentEnds
+pub mod TextEnds
+pub mod EscapeEnds
+pub mod Enclosed
+pub mod Once
+pub mod Total
+pub mod NameKeys
+pub mod NameLists
+pub mod Fewer
+pub mod Turns
+pub mod Finish
+pub mod Sound
+pub mod Agreement

@@ -1,0 +1,10 @@
+pub mod Characters
+pub mod Words
+pub mod Names
+pub mod Lexis
+pub mod Scans
+pub mod Found
+pub mod Shown
+pub mod Gathered
+pub mod Answers
+pub mod Laws

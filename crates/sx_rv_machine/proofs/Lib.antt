@@ -1,0 +1,4 @@
+pub mod Steps
+pub mod Puts
+pub mod Areas
+pub mod Places

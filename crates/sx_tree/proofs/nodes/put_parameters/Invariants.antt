@@ -1,0 +1,6 @@
+use Rattle.std.proofs.Common.{◌≡◌, ◌++◌, drop, map}
+use Rattle.sx_tree.specs.Nodes.{all, parameter_places}
+use Rattle.sx_tree.proofs.nodes.put_parameters.Given as goal
+
+abbrev pub invariant-loop-parameter : goal.invariant-loop-parameter
+invariant-loop-parameter l = l.places.items ++ all (map parameter_places (drop l.parameter-index l.parameters)) ≡ l.fn.places.items ++ all (map parameter_places l.parameters)
