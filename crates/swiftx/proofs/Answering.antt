@@ -4,16 +4,18 @@ use Rattle.std.specs.Prelude.{option_map}
 use Rattle.sx_io.specs.Outside.{Files, Call, reading, Rose}
 use Rattle.sx_runs.specs.Ending.{Ending as End}
 use Rattle.sx_rv_machine.specs.Put.{Told}
-use Rattle.swiftx.specs.Commands.{Command, Run, IsCommand}
+use Rattle.sx_rv_machine.specs.declared.machine.Ending.{Ending as MachineEnding}
+use Rattle.sx_rv_machine.specs.declared.machine.Ending.TheVariants.{Exits, Faults}
+use Rattle.swiftx.specs.Commands.{Command, Run, Exec, IsCommand, file_name}
 use Rattle.swiftx.specs.Prints.{PrintsText, PrintsNothing}
 use Rattle.swiftx.specs.Lines.{usage_line, store_line, unbuilt_line}
 use Rattle.swiftx.specs.Outside.{Outside, Asked}
-use Rattle.swiftx.specs.Due.{Due, line_due, run_due, Holds, most_text, ends_as, TextDue, refused, ran, IsDue, no_command, unread, read}
+use Rattle.swiftx.specs.Due.{Due, line_due, run_due, Holds, ends_as, ended_with, executed, most_of, TextDue, refused, ran, ElfDue, unloadable, loadable, ReadDue, IsDue, no_command, unread, read}
 use Rattle.swiftx.specs.Answer.{Answered, IsDone, StoreCount}
-use Rattle.swiftx.specs.Parts.{Said, Settled, RanOut, PrintsSettled, TextSettled}
+use Rattle.swiftx.specs.Parts.{Said, Settled, RanOut, PrintsSettled, TextSettled, CommandSettled}
 use Rattle.swiftx.proofs.Settle.{said_settled}
 use Rattle.swiftx.specs.declared.outcome.Outcome.{Outcome}
-use Rattle.swiftx.specs.declared.outcome.Outcome.TheVariants.{Exited, Usage, Refused, Budget, StoreFault, SinkFault, NoMemory}
+use Rattle.swiftx.specs.declared.outcome.Outcome.TheVariants.{Exited, Usage, Refused, ElfRefused, Budget, MachineFault, StoreFault, SinkFault, NoMemory}
 use Rattle.swiftx.specs.declared.outcome.Fault.TheVariants.{Unbuilt}
 use Rattle.swiftx.specs.declared.bench.Bench.{Bench}
 
@@ -22,7 +24,9 @@ abbrev pub IsUsual : Outcome → Type 0
 IsUsual (Exited status) = Unit {0}
 IsUsual Usage = Unit {0}
 IsUsual (Refused fault) = Unit {0}
+IsUsual (ElfRefused stop) = Unit {0}
 IsUsual Budget = Unit {0}
+IsUsual (MachineFault kind pc) = Unit {0}
 IsUsual StoreFault = Unit {0}
 IsUsual SinkFault = ⊥
 IsUsual NoMemory = ⊥
@@ -31,7 +35,9 @@ usual_end : (outcome : Outcome) (x : Option End) → ends_as outcome ≡ Some x 
 usual_end (Exited status) x e = tt
 usual_end Usage x e = tt
 usual_end (Refused fault) x e = tt
+usual_end (ElfRefused stop) x e = tt
 usual_end Budget x e = tt
+usual_end (MachineFault kind pc) x e = tt
 usual_end StoreFault x e = tt
 usual_end SinkFault x e = absurd (cc)
 usual_end NoMemory x e = absurd (cc)
@@ -41,7 +47,9 @@ run_count : (outcome : Outcome) (x : Option End) (before now : ℕ) → ends_as 
 run_count (Exited status) x before now e h = h
 run_count Usage x before now e h = h
 run_count (Refused fault) x before now e h = h
+run_count (ElfRefused stop) x before now e h = h
 run_count Budget x before now e h = h
+run_count (MachineFault kind pc) x before now e h = h
 run_count StoreFault x before now e h = absurd (cc)
 run_count SinkFault x before now e h = h
 run_count NoMemory x before now e h = h
@@ -54,16 +62,46 @@ text_count : (text : List ℕ) (steps : ℕ) (due : Due) (before now : ℕ) → 
 text_count text steps _ before now (refused h) same = same
 text_count text steps _ before now (ran file outcome b e) same = run_count outcome _ before now e same
 
+-- a machine's own ending, too
+usual_own : (o : Option MachineEnding) → IsUsual (ended_with o)
+usual_own None = tt
+usual_own (Some (Exits status)) = tt
+usual_own (Some (Faults kind pc)) = tt
+
+own_count : (o : Option MachineEnding) (before now : ℕ) → now ≡ before → StoreCount (ended_with o) before now
+own_count None before now same = same
+own_count (Some (Exits status)) before now same = same
+own_count (Some (Faults kind pc)) before now same = same
+
+usual_elf : (file : List ℕ) (steps : ℕ) (due : Due) → ElfDue file steps due → IsUsual due.outcome
+usual_elf file steps _ (unloadable stop line is said) = tt
+usual_elf file steps _ (loadable is) = usual_own (executed file steps).state.ending
+
+elf_count : (file : List ℕ) (steps : ℕ) (due : Due) (before now : ℕ) → ElfDue file steps due → now ≡ before → StoreCount due.outcome before now
+elf_count file steps _ before now (unloadable stop line is said) same = same
+elf_count file steps _ before now (loadable is) same = own_count (executed file steps).state.ending before now same
+
+-- by the command
+usual_read : (command : Command) (bytes : List ℕ) (due : Due) → ReadDue command bytes due → IsUsual due.outcome
+usual_read (Run file steps) bytes due is = usual_text bytes steps due is
+usual_read (Exec file steps) bytes due is = usual_elf bytes steps due is
+
+read_count : (command : Command) (bytes : List ℕ) (due : Due) (before now : ℕ) → ReadDue command bytes due → now ≡ before → StoreCount due.outcome before now
+read_count (Run file steps) bytes due before now is same = text_count bytes steps due before now is same
+read_count (Exec file steps) bytes due before now is same = elf_count bytes steps due before now is same
+
 usual : (words : List (List ℕ)) (files : Option Files) (due : Due) (calls : List Call) → IsDue words files due calls → IsUsual due.outcome
 usual words files _ _ (no_command h) = tt
-usual words files _ _ (unread name steps h) = tt
-usual words files due _ (read name steps text _ h i t) = usual_text text steps due t
+usual words files _ _ (unread command h) = tt
+usual words files due _ (read command bytes _ h i t) = usual_read command bytes due t
 
 done_answers : (words : List (List ℕ)) (old new : Outside) (bench : Bench) (outcome : Outcome) → IsUsual outcome → IsDone words old new bench outcome → Answered words old new bench outcome
 done_answers words old new bench (Exited status) u d = d
 done_answers words old new bench Usage u d = d
 done_answers words old new bench (Refused fault) u d = d
+done_answers words old new bench (ElfRefused stop) u d = d
 done_answers words old new bench Budget u d = d
+done_answers words old new bench (MachineFault kind pc) u d = d
 done_answers words old new bench StoreFault u d = d
 done_answers words old new bench SinkFault u d = absurd u
 done_answers words old new bench NoMemory u d = absurd u
@@ -88,20 +126,21 @@ usage_answers words files asked faults out err err' line result bench e b m none
     (no_command none) (asked_none asked) refl (said_settled Usage result usage_line out err err' bench b m (subst (λ l. Said Usage result l err err') e said))
 
 -- the read failed
-pub unread_answers : (words : List (List ℕ)) (files files' : Option Files) (asked asked' : Option (List Call)) (faults faults' : ℕ) (out err err' : Told) (line : List ℕ) (result : Outcome) (bench : Bench) (name : List ℕ) (steps : ℕ) → line ≡ store_line → option_map (λ b. b.bytes.items) bench.built ≡ None → bench.machine ≡ None → IsCommand words (Run name steps) → asked' ≡ option_map (λ (before : List Call). before ++ reading name ∷ []) asked → Rose faults faults' → Said StoreFault result line err err'
+pub unread_answers : (words : List (List ℕ)) (files files' : Option Files) (asked asked' : Option (List Call)) (faults faults' : ℕ) (out err err' : Told) (line : List ℕ) (result : Outcome) (bench : Bench) (command : Command) (name : List ℕ) → name ≡ file_name command → line ≡ store_line → option_map (λ b. b.bytes.items) bench.built ≡ None → bench.machine ≡ None → IsCommand words command → asked' ≡ option_map (λ (before : List Call). before ++ reading name ∷ []) asked → Rose faults faults' → Said StoreFault result line err err'
     → Answered words (record { files = files; asked = asked; store_faults = faults; out = out; err = err }) (record { files = files'; asked = asked'; store_faults = faults'; out = out; err = err' }) bench result
-unread_answers words files files' asked asked' faults faults' out err err' line result bench name steps e b m is added rose said =
-    settled_answers words (record { files = files; asked = asked; store_faults = faults; out = out; err = err }) (record { files = files'; asked = asked'; store_faults = faults'; out = out; err = err' }) bench (line_due StoreFault store_line) (reading name ∷ []) result
-    (unread name steps is) added rose (said_settled StoreFault result store_line out err err' bench b m (subst (λ l. Said StoreFault result l err err') e said))
+unread_answers words files files' asked asked' faults faults' out err err' line result bench command name n e b m is added rose said =
+    settled_answers words (record { files = files; asked = asked; store_faults = faults; out = out; err = err }) (record { files = files'; asked = asked'; store_faults = faults'; out = out; err = err' }) bench (line_due StoreFault store_line) (reading (file_name command) ∷ []) result
+    (unread command is) (subst (λ x. asked' ≡ option_map (λ (before : List Call). before ++ reading x ∷ []) asked) n added) rose (said_settled StoreFault result store_line out err err' bench b m (subst (λ l. Said StoreFault result l err err') e said))
 
--- the text was read
-pub text_answers : (words : List (List ℕ)) (old new : Outside) (bench : Bench) (result : Outcome) (name text : List ℕ) (steps : ℕ) → IsCommand words (Run name steps) → Holds old.files name 262145 text → Asked old new (reading name ∷ []) → new.store_faults ≡ old.store_faults → RanOut old.out new.out old.err new.err result ⊎ TextSettled text steps old.out new.out old.err new.err bench result → Answered words old new bench result
-unfolding most_text
-text_answers words old new bench result name text steps is holds asked same (inl out) =
+-- the file was read
+pub read_answers : (words : List (List ℕ)) (old new : Outside) (bench : Bench) (result : Outcome) (command : Command) (name bytes : List ℕ) (most : ℕ) → name ≡ file_name command → most ≡ most_of command → IsCommand words command → Holds old.files name most bytes → Asked old new (reading name ∷ []) → new.store_faults ≡ old.store_faults → RanOut old.out new.out old.err new.err result ⊎ CommandSettled command bytes old.out new.out old.err new.err bench result → Answered words old new bench result
+read_answers words old new bench result command name bytes most n k is holds asked same (inl out) =
     subst (λ o. Answered words old new bench o) (sym out.answers)
-    (record { out = out.out_same; err = out.err_same; store = same; asked = inr (name, steps, is, asked) })
-text_answers words old new bench result name text steps is holds asked same (inr t) =
-    settled_answers words old new bench t.due (reading name ∷ []) result (read name steps text t.due is holds t.is) asked (text_count text steps t.due _ _ t.is same) t.settled
+    (record { out = out.out_same; err = out.err_same; store = same; asked = inr (command, is, subst (λ x. Asked old new (reading x ∷ [])) n asked) })
+read_answers words old new bench result command name bytes most n k is holds asked same (inr t) =
+    settled_answers words old new bench t.due (reading (file_name command) ∷ []) result
+    (read command bytes t.due is (subst (λ x. Holds old.files x (most_of command) bytes) n (subst (λ x. Holds old.files name x bytes) k holds)) t.is)
+    (subst (λ x. Asked old new (reading x ∷ [])) n asked) (read_count command bytes t.due _ _ t.is same) t.settled
 
 -- the parts of a text's answer
 pub refused_settled : (text : List ℕ) (steps : ℕ) (out err err' : Told) (bench : Bench) (line : List ℕ) (result : Outcome) → line ≡ unbuilt_line → option_map (λ b. b.bytes.items) bench.built ≡ None → bench.machine ≡ None → PrintsNothing text → Said (Refused Unbuilt) result line err err' → TextSettled text steps out out err err' bench result

@@ -4,7 +4,7 @@ use Rattle.std.specs.Prelude.{IfSome, IfNone, String, string_bytes, codes, bytes
 use Rattle.std.proofs.lemmas.Slice.Eq.{bytes_eq-Decides}
 use Rattle.std.specs.declared.alloc.Global.{Global}
 use Rattle.std.proofs.lemmas.Fmt.{decimal_injective}
-use Rattle.swiftx.specs.Commands.{Command, Run, IsFileName, IsStepLimit, IsLine, IsCommand, default_steps}
+use Rattle.swiftx.specs.Commands.{Command, Run, Exec, IsFileName, IsStepLimit, IsLine, IsCommand, default_steps}
 use Rattle.swiftx.specs.Words.{texts, meaning, IsNamed}
 use Rattle.swiftx.specs.declared.command.Command.{Command as Parsed}
 use Rattle.swiftx.proofs.Numerals.{limit_small}
@@ -81,16 +81,21 @@ one_limit number m n p q = decimal_injective m n (limit_small m p.1) (limit_smal
 
 short_is : (words : List (List ℕ)) (name file : List ℕ) (c : Command) → Short words name file → IsNamed name file default_steps c → IsCommand words c
 short_is words name file (Run f n) e h = short_line words name file f n (codes "run") e h
+short_is words name file (Exec f n) e h = short_line words name file f n (codes "exec") e h
 
 short_was : (words : List (List ℕ)) (name file : List ℕ) (c : Command) → Short words name file → IsCommand words c → IsNamed name file default_steps c
 short_was words name file (Run f n) e h = short_back words name file f n (codes "run") e h
+short_was words name file (Exec f n) e h = short_back words name file f n (codes "exec") e h
 
 long_is : (words : List (List ℕ)) (name file number : List ℕ) (steps : ℕ) (c : Command) → Long words name file number → IsStepLimit number steps → IsNamed name file steps c → IsCommand words c
 long_is words name file number steps (Run f n) e l h = long_line words name file number f n steps (codes "run") e l h
+long_is words name file number steps (Exec f n) e l h = long_line words name file number f n steps (codes "exec") e l h
 
 long_was : (words : List (List ℕ)) (name file number : List ℕ) (steps : ℕ) (c : Command) → Long words name file number → IsStepLimit number steps → IsCommand words c → IsNamed name file steps c
 long_was words name file number steps (Run f n) e l h =
     let b = long_back words name file number f n (codes "run") e h in (b.0, b.1, b.2, one_limit number n steps b.3 l)
+long_was words name file number steps (Exec f n) e l h =
+    let b = long_back words name file number f n (codes "exec") e h in (b.0, b.1, b.2, one_limit number n steps b.3 l)
 
 -- what is found for the words, and that nothing else is
 pub short_some : (words : List (List ℕ)) (name file : List ℕ) (o : Option Parsed) → words ≡ name ∷ file ∷ [] → IfSome o (λ p. IsNamed name file 200000000 (meaning p)) → IfSome o (λ p. IsCommand words (meaning p))
@@ -116,6 +121,7 @@ long_none words name file number steps (Some p) e l h = tt
 pub no_limit : (words : List (List ℕ)) (name file number : List ℕ) (c : Command) → words ≡ name ∷ file ∷ codes "--steps" ∷ number ∷ [] → ((n : ℕ) → IsStepLimit number n → ⊥) → IsCommand words c → ⊥
 unfolding Long
 no_limit words name file number (Run f n) e none h = none n (long_back words name file number f n (codes "run") e h).3
+no_limit words name file number (Exec f n) e none h = none n (long_back words name file number f n (codes "exec") e h).3
 
 -- four words of which the third is the option
 pub four_texts : (ws : List Word) (a b c d : Word) (name file option number : List ℕ) → 4 ≤ length ws → length ws < 5 → a ≡ get_or ws 0 a → b ≡ get_or ws 1 b → c ≡ get_or ws 2 c → d ≡ get_or ws 3 d → name ≡ string_bytes a → file ≡ string_bytes b → option ≡ string_bytes c → number ≡ string_bytes d → false ≡ not (bytes_eq option (codes "--steps")) → texts ws ≡ name ∷ file ∷ codes "--steps" ∷ number ∷ []

@@ -4,5 +4,6 @@ pub mod Lines
 pub mod Numerals
 pub mod CommandLines
 pub mod Settle
+pub mod Executions
 pub mod Whole
 pub mod Answering

@@ -27,18 +27,18 @@ use Rattle.swiftx.specs.declared.outcome.Outcome.TheVariants.{Exited, Budget, Si
 use Rattle.swiftx.specs.declared.bench.Bench.{Bench}
 
 -- the machine of a file takes the same steps under the shared endings
-same_run : (file : List ℕ) (n : ℕ) → after (target file) n ≡ after (machine_from (start file)) n
+pub same_run : (file : List ℕ) (n : ℕ) → after (target file) n ≡ after (machine_from (start file)) n
 same_run file n = renamed-steps as_end (machine_from (start file)) n (machine_from (start file)).start
 
 -- a front of what a sink was due
-front_is : (old new : Told) (p all : List ℕ) → IsPrefix p all → new.bytes ≡ option_map (λ (t : List ℕ). t ++ p) old.bytes → GrewByFront old new all
+pub front_is : (old new : Told) (p all : List ℕ) → IsPrefix p all → new.bytes ≡ option_map (λ (t : List ℕ). t ++ p) old.bytes → GrewByFront old new all
 front_is old new p all f told =
     record {
       taken = length p;
       told = told ∙ ap (λ (x : List ℕ). option_map (λ (t : List ℕ). t ++ x) old.bytes) (sym (ap (take (length p)) f.is ∙ take-append_seam p f.rest));
     }
 
-prefix_take : (k : ℕ) (a last : List ℕ) → IsPrefix (a ++ take k last) (a ++ last)
+pub prefix_take : (k : ℕ) (a last : List ℕ) → IsPrefix (a ++ take k last) (a ++ last)
 prefix_take k a last = record { rest = drop k last; is = ap (λ x. a ++ x) (sym (take-append-drop k last)) ∙ sym (append_assoc a (take k last) (drop k last)) }
 
 module _ (file : List ℕ) (steps : ℕ) (out out' err err' : Told) (bench : Bench) where

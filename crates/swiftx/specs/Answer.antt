@@ -4,12 +4,12 @@ use Rattle.sx_io.specs.Outside.{Call, reading, Rose}
 use Rattle.sx_runs.specs.Machine.{after}
 use Rattle.sx_rv_machine.specs.Put.{Told, Grew}
 use Rattle.sx_rv_machine.specs.State.{State}
-use Rattle.swiftx.specs.Commands.{Run, IsCommand}
+use Rattle.swiftx.specs.Commands.{Command, IsCommand, file_name}
 use Rattle.swiftx.specs.Due.{Due, IsDue}
 use Rattle.swiftx.specs.Outside.{Outside, Asked, CutShort}
 use Rattle.swiftx.specs.Target.{target}
 use Rattle.swiftx.specs.declared.outcome.Outcome.{Outcome}
-use Rattle.swiftx.specs.declared.outcome.Outcome.TheVariants.{Exited, Usage, Refused, Budget, StoreFault, SinkFault, NoMemory}
+use Rattle.swiftx.specs.declared.outcome.Outcome.TheVariants.{Exited, Usage, Refused, ElfRefused, Budget, MachineFault, StoreFault, SinkFault, NoMemory}
 use Rattle.swiftx.specs.declared.bench.Bench.{Bench}
 
 -- the machine of a file after so many steps
@@ -41,7 +41,9 @@ StoreCount StoreFault before now = Rose before now
 StoreCount (Exited status) before now = now ≡ before
 StoreCount Usage before now = now ≡ before
 StoreCount (Refused fault) before now = now ≡ before
+StoreCount (ElfRefused stop) before now = now ≡ before
 StoreCount Budget before now = now ≡ before
+StoreCount (MachineFault kind pc) before now = now ≡ before
 StoreCount SinkFault before now = now ≡ before
 StoreCount NoMemory before now = now ≡ before
 
@@ -68,13 +70,15 @@ pub record HasNoMemory (words : List (List ℕ)) (old new : Outside) : Type 0 wh
   pub out : Grew old.out new.out []
   pub err : Grew old.err new.err []
   pub store : new.store_faults ≡ old.store_faults
-  pub asked : Asked old new [] ⊎ (name : List ℕ) × (steps : ℕ) × IsCommand words (Run name steps) × Asked old new (reading name ∷ [])
+  pub asked : Asked old new [] ⊎ (command : Command) × IsCommand words command × Asked old new (reading (file_name command) ∷ [])
 
 abbrev pub Answered : List (List ℕ) → Outside → Outside → Bench → Outcome → Type 0
 Answered words old new bench Usage = IsDone words old new bench Usage
 Answered words old new bench (Refused fault) = IsDone words old new bench (Refused fault)
+Answered words old new bench (ElfRefused stop) = IsDone words old new bench (ElfRefused stop)
 Answered words old new bench (Exited status) = IsDone words old new bench (Exited status)
 Answered words old new bench Budget = IsDone words old new bench Budget
+Answered words old new bench (MachineFault kind pc) = IsDone words old new bench (MachineFault kind pc)
 Answered words old new bench StoreFault = IsDone words old new bench StoreFault
 Answered words old new bench SinkFault = IsCut words old new bench
 Answered words old new bench NoMemory = HasNoMemory words old new

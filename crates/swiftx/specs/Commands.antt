@@ -6,6 +6,13 @@ use Rattle.std.specs.Fmt.{decimal}
 pub data Command : Type 0 where
   -- compile a text and run it
   Run : (file : List ℕ) (steps : ℕ) → Command
+  -- load an executable and run it
+  Exec : (file : List ℕ) (steps : ℕ) → Command
+
+-- the file that a command reads
+abbrev pub file_name : Command → List ℕ
+file_name (Run file steps) = file
+file_name (Exec file steps) = file
 
 unfoldable pub default_steps : ℕ
 default_steps = 200000000
@@ -31,3 +38,4 @@ IsLine name words file steps =
 
 abbrev pub IsCommand : List (List ℕ) → Command → Type 0
 IsCommand words (Run file steps) = IsLine (codes "run") words file steps
+IsCommand words (Exec file steps) = IsLine (codes "exec") words file steps

@@ -4,11 +4,15 @@ use Rattle.sx_runs.specs.Machine.{shown}
 use Rattle.sx_runs.specs.Performs.{Performs}
 use Rattle.sx_rv_machine.specs.Put.{Told, Grew, BrokeOff}
 use Rattle.swiftx.specs.Answer.{Completed, Broken}
-use Rattle.swiftx.specs.Due.{Due, TextDue, run_due, ends_as}
+use Rattle.swiftx.specs.Due.{Due, TextDue, ElfDue, ReadDue, run_due, exec_due, ends_as}
 use Rattle.swiftx.specs.Source.{source}
-use Rattle.swiftx.specs.Target.{target}
+use Rattle.swiftx.specs.Lines.{elf_line}
+use Rattle.swiftx.specs.Target.{start, target}
+use Rattle.swiftx.specs.Commands.{Command}
+use Rattle.sx_elf.specs.declared.elf_stop.ElfStop.{ElfStop}
+use Rattle.sx_rv_machine.specs.State.{State}
 use Rattle.swiftx.specs.declared.outcome.Outcome.{Outcome}
-use Rattle.swiftx.specs.declared.outcome.Outcome.TheVariants.{SinkFault, NoMemory}
+use Rattle.swiftx.specs.declared.outcome.Outcome.TheVariants.{SinkFault, NoMemory, ElfRefused}
 use Rattle.swiftx.specs.declared.bench.Bench.{Bench}
 
 -- the line stands at the end of the second output, or its put failed
@@ -41,4 +45,26 @@ pub record PrintsSettled (literals : List (List ℕ)) (steps : ℕ) (out out' er
 pub record TextSettled (text : List ℕ) (steps : ℕ) (out out' err err' : Told) (bench : Bench) (result : Outcome) : Type 0 where
   pub due : Due
   pub is : TextDue text steps due
+  pub settled : Settled due out out' err err' bench result
+
+-- the line of a refused executable stands at the end of the second output, or its put failed
+pub record StopSaid (stop : ElfStop) (result : Outcome) (err err' : Told) : Type 0 where
+  pub line : List ℕ
+  pub is : elf_line stop ≡ Some line
+  pub said : Said (ElfRefused stop) result line err err'
+
+-- of each file whose machine starts in this state: its machine ran, or a put failed
+abbrev pub MachineSettled : State → ℕ → Told → Told → Told → Told → Bench → Outcome → Type 0
+MachineSettled machine steps out out' err err' bench result = (file : List ℕ) → machine ≡ start file → Settled (exec_due file steps) out out' err err' bench result
+
+-- what was due for an executable was settled
+pub record ExecSettled (file : List ℕ) (steps : ℕ) (out out' err err' : Told) (bench : Bench) (result : Outcome) : Type 0 where
+  pub due : Due
+  pub is : ElfDue file steps due
+  pub settled : Settled due out out' err err' bench result
+
+-- what was due for a command whose file was read was settled
+pub record CommandSettled (command : Command) (bytes : List ℕ) (out out' err err' : Told) (bench : Bench) (result : Outcome) : Type 0 where
+  pub due : Due
+  pub is : ReadDue command bytes due
   pub settled : Settled due out out' err err' bench result

@@ -1,16 +1,46 @@
 //! Command lines.
 ghost use Rattle.std.specs.Prelude.{◌≡◌, ℕ, List, map, string_bytes, IfSome, IfNone, IsTrue, ◌↔◌};
-ghost use Rattle.swiftx.specs.Commands.{IsFileName, IsStepLimit, IsCommand, Command as CommandLine, default_steps, greatest_steps};
+ghost use Rattle.swiftx.specs.Commands.{IsFileName, IsStepLimit, IsCommand, Command as CommandLine, default_steps, file_name, greatest_steps};
+ghost use Rattle.swiftx.specs.Due.{most_of};
 ghost use Rattle.std.specs.Str.{all_ascii_digits};
 ghost use Rattle.swiftx.specs.Words.{texts, meaning, IsNamed, IsPlainNumeral};
 
-/// What the words ask for: to compile the text in a file, and to run it.
+/// What the words ask for.
 #[derive(Clone, Copy, Debug, PartialEq, Eq)]
-pub struct Command<'a> {
-    /// The name of the file.
-    pub file: &'a str,
-    /// The greatest number of machine steps.
-    pub steps: u64,
+pub enum Command<'a> {
+    /// To compile the text in a file, and to run it for at most so many machine steps.
+    Run { file: &'a str, steps: u64 },
+    /// To load the executable in a file, and to run it for at most so many machine steps.
+    Exec { file: &'a str, steps: u64 },
+}
+
+/// How many bytes of a source text are read: one more than a text may have.
+const MOST_TEXT: usize = 262_145;
+
+/// How many bytes of an executable are read.
+const MOST_FILE: usize = 268_435_456;
+
+impl Command<'_> {
+    /// The name of the file that the command reads.
+    pub fn file(&self) -> &str
+        ensures { result.now ≡ file_name (meaning self.now) }
+    {
+        match self {
+            Command::Run { file, .. } => file,
+            Command::Exec { file, .. } => file,
+        }
+    }
+
+    /// How many bytes of its file the command reads at most.
+    #[tactic(auto, unfolding(crate::specs::Due::most_text, crate::specs::Due::most_file))]
+    pub fn most_of(&self) -> usize
+        ensures { result ≡ most_of (meaning self.now) }
+    {
+        match self {
+            Command::Run { .. } => MOST_TEXT,
+            Command::Exec { .. } => MOST_FILE,
+        }
+    }
 }
 
 /// The limit of steps where the words tell none.
@@ -47,7 +77,9 @@ fn with_file<'a>(name: &str, file: &'a str, steps: u64) -> Option<Command<'a>>
         return None;
     }
     if name == "run" {
-        Some(Command { file, steps })
+        Some(Command::Run { file, steps })
+    } else if name == "exec" {
+        Some(Command::Exec { file, steps })
     } else {
         None
     }

@@ -8,9 +8,12 @@
 mod bench;
 mod building;
 mod command;
+mod executing;
+mod messages;
 mod outcome;
 mod print_code;
 mod prints;
+mod running;
 #[cfg(test)]
 mod tests;
 mod top;

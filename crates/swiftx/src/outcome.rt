@@ -2,6 +2,9 @@
 ghost use Rattle.std.specs.Prelude.{◌≡◌};
 ghost use Rattle.swiftx.specs.Status.{status_of};
 
+use sx_elf::ElfStop;
+use sx_rv_isa::MachineKind;
+
 /// Why a text is refused.
 #[derive(Clone, Copy, Debug, PartialEq, Eq)]
 pub enum Fault {
@@ -18,8 +21,12 @@ pub enum Outcome {
     Usage,
     /// The text is refused.
     Refused(Fault),
+    /// The executable is refused by the first test that it fails, and never for want of memory.
+    ElfRefused(ElfStop),
     /// The program had not ended after all the steps of the limit.
     Budget,
+    /// The machine of an executable that was not built here could not carry out the instruction at this address.
+    MachineFault(MachineKind, u64),
     /// The file could not be read.
     StoreFault,
     /// An output could not be written; nothing was written after that.
@@ -38,7 +45,9 @@ pub fn code(outcome: &Outcome) -> u8
         Outcome::StoreFault => 3,
         Outcome::SinkFault => 4,
         Outcome::Refused(_) => 5,
+        Outcome::ElfRefused(_) => 6,
         Outcome::Budget => 7,
+        Outcome::MachineFault(..) => 8,
         Outcome::NoMemory => 9,
     }
 }

@@ -5,7 +5,9 @@ use crate::top::swiftx;
 use std::alloc::{AllocError, Global};
 use std::process::Abort;
 use std::test::Fail;
+use sx_elf::ElfStop;
 use sx_io::{MemSink, MemStore, NoMemory};
+use sx_rv_isa::MachineKind;
 use sx_rv_machine::pc;
 
 const USAGE: &[u8] =
@@ -224,6 +226,145 @@ fn a_failed_write_ends_the_call(rt: HostRuntime) -> Result<(), Fail> {
     Ok(())
 }
 
+/// An executable with one segment, whose three instructions exit with status 7. The header's number
+/// of program headers, and the segment's kind, flags, place in the file and size in memory are given.
+fn exits_with_seven(
+    alloc: Global,
+    headers: u16,
+    kind: u32,
+    flags: u32,
+    offset: u64,
+    size: u64,
+) -> Result<Vec<u8>, AllocError> {
+    let mut file = Vec::new(alloc);
+    file.extend_from_slice(b"\x7fELF\x02\x01\x01\0\0\0\0\0\0\0\0\0")?;
+    file.extend_from_slice(&[2, 0, 243, 0, 1, 0, 0, 0])?;
+    for number in [0x10078_u64, 64, 0] {
+        file.extend_from_slice(&number.to_le_bytes())?;
+    }
+    file.extend_from_slice(&[0, 0, 0, 0, 64, 0, 56, 0])?;
+    file.extend_from_slice(&headers.to_le_bytes())?;
+    file.extend_from_slice(&[0; 6])?;
+    file.extend_from_slice(&kind.to_le_bytes())?;
+    file.extend_from_slice(&flags.to_le_bytes())?;
+    for number in [offset, 0x10078, 0x10078, 12, size, 0x1000] {
+        file.extend_from_slice(&number.to_le_bytes())?;
+    }
+    for word in [0x0070_0513_u32, 0x05D0_0893, 0x0000_0073] {
+        file.extend_from_slice(&word.to_le_bytes())?;
+    }
+    Ok(file)
+}
+
+#[test]
+fn executables_run(rt: HostRuntime) -> Result<(), Fail> {
+    let alloc = rt.alloc();
+    let file = exits_with_seven(alloc, 1, 1, 5, 120, 12)?;
+    ends(
+        &rt,
+        alloc,
+        "exec x.elf",
+        "x.elf",
+        &file,
+        Outcome::Exited(7),
+        b"",
+        b"",
+    )?;
+    ends(
+        &rt,
+        alloc,
+        "exec x.elf --steps 2",
+        "x.elf",
+        &file,
+        Outcome::Budget,
+        b"",
+        b"",
+    )?;
+    ends(
+        &rt,
+        alloc,
+        "exec x.elf --steps 3",
+        "x.elf",
+        &file,
+        Outcome::Exited(7),
+        b"",
+        b"",
+    )?;
+    let mut desk = Desk::with(alloc, "x.elf", &file, [None, None, None])?;
+    desk.call(alloc, "exec x.elf --steps 2")?;
+    assert!(rt; desk.bench.built.is_none());
+    match &desk.bench.machine {
+        Some(machine) => assert_eq!(rt; pc(machine), 0x1_0080),
+        None => panic!(rt; "no machine"),
+    }
+    Ok(())
+}
+
+#[test]
+fn a_machine_fault_is_told(rt: HostRuntime) -> Result<(), Fail> {
+    let alloc = rt.alloc();
+    let file = exits_with_seven(alloc, 1, 1, 4, 120, 12)?;
+    let outcome = Outcome::MachineFault(MachineKind::FetchOutside, 0x1_0078);
+    let line = b"machine fault fetch-outside at 0000000000010078\n";
+    ends(&rt, alloc, "exec x.elf", "x.elf", &file, outcome, b"", line)?;
+    let mut desk = Desk::with(alloc, "x.elf", &file, [None, None, Some(1)])?;
+    assert_eq!(rt; desk.call(alloc, "exec x.elf")?, Outcome::SinkFault);
+    Ok(())
+}
+
+#[test]
+fn files_that_cannot_be_loaded_are_refused(rt: HostRuntime) -> Result<(), Fail> {
+    let alloc = rt.alloc();
+    let file = exits_with_seven(alloc, 1, 1, 5, 121, 12)?;
+    let outcome = Outcome::ElfRefused(ElfStop::BadSegment(0));
+    ends(
+        &rt,
+        alloc,
+        "exec x.elf",
+        "x.elf",
+        &file,
+        outcome,
+        b"",
+        b"elf bad-segment 0\n",
+    )?;
+    let file = exits_with_seven(alloc, 1, 3, 5, 120, 12)?;
+    let outcome = Outcome::ElfRefused(ElfStop::Dynamic(0));
+    ends(
+        &rt,
+        alloc,
+        "exec x.elf",
+        "x.elf",
+        &file,
+        outcome,
+        b"",
+        b"elf dynamic 0\n",
+    )?;
+    let file = exits_with_seven(alloc, 0, 1, 5, 120, 12)?;
+    let outcome = Outcome::ElfRefused(ElfStop::BadTable);
+    ends(
+        &rt,
+        alloc,
+        "exec x.elf",
+        "x.elf",
+        &file,
+        outcome,
+        b"",
+        b"elf bad-table\n",
+    )?;
+    let file = exits_with_seven(alloc, 1, 1, 5, 120, 268_435_457)?;
+    let outcome = Outcome::ElfRefused(ElfStop::TooLarge(268_435_457));
+    ends(
+        &rt,
+        alloc,
+        "exec x.elf",
+        "x.elf",
+        &file,
+        outcome,
+        b"",
+        b"elf too-large 268435457\n",
+    )
+}
+
 #[test]
 fn each_outcome_has_its_status(rt: HostRuntime) {
     assert_eq!(rt; code(&Outcome::Exited(70)), 70);
@@ -231,6 +372,8 @@ fn each_outcome_has_its_status(rt: HostRuntime) {
     assert_eq!(rt; code(&Outcome::StoreFault), 3);
     assert_eq!(rt; code(&Outcome::SinkFault), 4);
     assert_eq!(rt; code(&Outcome::Refused(Fault::Unbuilt)), 5);
+    assert_eq!(rt; code(&Outcome::ElfRefused(ElfStop::BadMagic)), 6);
     assert_eq!(rt; code(&Outcome::Budget), 7);
+    assert_eq!(rt; code(&Outcome::MachineFault(MachineKind::Illegal, 0)), 8);
     assert_eq!(rt; code(&Outcome::NoMemory), 9);
 }

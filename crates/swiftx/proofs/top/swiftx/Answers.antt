@@ -1,7 +1,7 @@
 use Rattle.std.proofs.Common.{refl, None}
-use Rattle.swiftx.specs.Words.{texts}
+use Rattle.swiftx.specs.Words.{meaning, texts}
 use Rattle.swiftx.specs.Lines.{usage_line, store_line}
-use Rattle.swiftx.proofs.Answering.{usage_answers, unread_answers, text_answers}
+use Rattle.swiftx.proofs.Answering.{usage_answers, unread_answers, read_answers}
 use Rattle.swiftx.proofs.top.swiftx.Goals as goal
 
 pub returns-in_default-clause-answered : goal.returns-in_default-clause-answered
@@ -11,15 +11,15 @@ returns-in_default-clause-answered g c =
 
 pub returns-in-Ok-clause-answered : goal.returns-in-Ok-clause-answered
 returns-in-Ok-clause-answered g c =
-    text_answers (texts c.args.words.now.items) (record { files = g.S.Store.files c.args.store.now; asked = g.S.Store.asked c.args.store.now; store_faults = g.S.Store.faults c.args.store.now; out = (record { bytes = g.O.Sink.written c.args.out.now; faults = g.O.Sink.faults c.args.out.now }); err = (record { bytes = g.E.Sink.written c.args.err.now; faults = g.E.Sink.faults c.args.err.now }) }) (record { files = g.S.Store.files c.read.new.self; asked = g.S.Store.asked c.read.new.self; store_faults = g.S.Store.faults c.read.new.self; out = (record { bytes = g.O.Sink.written c.run_text.new.out; faults = g.O.Sink.faults c.run_text.new.out }); err = (record { bytes = g.E.Sink.written c.run_text.new.err; faults = g.E.Sink.faults c.run_text.new.err }) }) c.run_text.new.bench c.run_text.result c.in-Some.command.file.now c.deref-in-Ok.result.now c.in-Some.command.steps
+    read_answers (texts c.args.words.now.items) (record { files = g.S.Store.files c.args.store.now; asked = g.S.Store.asked c.args.store.now; store_faults = g.S.Store.faults c.args.store.now; out = (record { bytes = g.O.Sink.written c.args.out.now; faults = g.O.Sink.faults c.args.out.now }); err = (record { bytes = g.E.Sink.written c.args.err.now; faults = g.E.Sink.faults c.args.err.now }) }) (record { files = g.S.Store.files c.read.new.self; asked = g.S.Store.asked c.read.new.self; store_faults = g.S.Store.faults c.read.new.self; out = (record { bytes = g.O.Sink.written c.perform.new.out; faults = g.O.Sink.faults c.perform.new.out }); err = (record { bytes = g.E.Sink.written c.perform.new.err; faults = g.E.Sink.faults c.perform.new.err }) }) c.perform.new.bench c.perform.result (meaning c.in-Some.command) c.file.result.now c.in-Ok.bytes.items c.most_of.result c.file.ensures c.most_of.ensures
     (rw c.deref.ensures.value at c.in-Some.ensures.some)
-    (rw c.deref-in-Ok.ensures.value c.in-Ok.ensures.bytes)
-    c.in-Ok.ensures.asked c.in-Ok.ensures.cause c.run_text.ensures
+    c.in-Ok.ensures.bytes
+    c.in-Ok.ensures.asked c.in-Ok.ensures.cause c.perform.ensures
 
 pub returns-in-Err-Failed-clause-answered : goal.returns-in-Err-Failed-clause-answered
 unfolding store_line
 returns-in-Err-Failed-clause-answered g c =
-    unread_answers (texts c.args.words.now.items) (g.S.Store.files c.args.store.now) (g.S.Store.files c.read.new.self) (g.S.Store.asked c.args.store.now) (g.S.Store.asked c.read.new.self) (g.S.Store.faults c.args.store.now) (g.S.Store.faults c.read.new.self) (record { bytes = g.O.Sink.written c.args.out.now; faults = g.O.Sink.faults c.args.out.now }) (record { bytes = g.E.Sink.written c.args.err.now; faults = g.E.Sink.faults c.args.err.now }) (record { bytes = g.E.Sink.written c.say-in-Err-Failed.new.err; faults = g.E.Sink.faults c.say-in-Err-Failed.new.err }) _ c.say-in-Err-Failed.result (record { built = None; machine = None }) c.in-Some.command.file.now c.in-Some.command.steps refl refl refl
+    unread_answers (texts c.args.words.now.items) (g.S.Store.files c.args.store.now) (g.S.Store.files c.read.new.self) (g.S.Store.asked c.args.store.now) (g.S.Store.asked c.read.new.self) (g.S.Store.faults c.args.store.now) (g.S.Store.faults c.read.new.self) (record { bytes = g.O.Sink.written c.args.out.now; faults = g.O.Sink.faults c.args.out.now }) (record { bytes = g.E.Sink.written c.args.err.now; faults = g.E.Sink.faults c.args.err.now }) (record { bytes = g.E.Sink.written c.say-in-Err-Failed.new.err; faults = g.E.Sink.faults c.say-in-Err-Failed.new.err }) _ c.say-in-Err-Failed.result (record { built = None; machine = None }) (meaning c.in-Some.command) c.file.result.now c.file.ensures refl refl refl
     (rw c.deref.ensures.value at c.in-Some.ensures.some)
     (rw c.in-Err-Failed.field-0-is at c.in-Err-Failed.ensures.asked)
     (rw c.in-Err-Failed.field-0-is at c.in-Err-Failed.ensures.cause)
