@@ -1,10 +1,10 @@
 -- Reading finds exactly what the grammar derives, and goes exactly as far as a front does.
-use Rattle.std.proofs.Common.{◌≡◌, ℕ, zero, suc, ◌+◌, ◌≤◌, ◌<◌, List, [], ◌∷◌, ◌++◌, length, Bool, true, false, cond, not, ◌&&◌, ◌||◌, refl, sym, ap, ◌∙◌, subst, ◌⊎◌, inl, inr, arith}
+use Rattle.std.proofs.Common.{◌≡◌, ℕ, ◌≤◌, ◌<◌, List, ◌∷◌, ◌++◌, length, Bool, true, false, cond, ◌&&◌, ◌||◌, refl, sym, ap, ◌∙◌, subst, ◌⊎◌, inl, inr, arith}
 use Rattle.sx_grammar.specs.declared.lexemes.Lexeme.{Lexeme}
-use Rattle.sx_grammar.specs.Value.{Value, nothing, leaf, pair}
+use Rattle.sx_grammar.specs.Value.{Value}
 use Rattle.sx_grammar.specs.Classes.{class_of}
-use Rattle.sx_grammar.specs.Grammar.{Grammar, empty, token, both, either, many, deeper, select, begin, giving, has, starts, Whole, whole_empty, whole_token, whole_both, whole_left, whole_right, whole_none, whole_more, whole_deeper, whole_select, whole_begin, whole_giving, Front, front_nothing, front_token, front_first, front_second, front_left, front_right, front_one, front_more, front_opening, front_select_first, front_select, front_begin, front_giving, Out, done, fault, Cause, misfit, missing, ◌>>=◌, nullable, passed, stands, first, turns, Deeper, run_with, opening, run, apart, within, more, fine, IsFine}
-use Rattle.sx_grammar.proofs.Bools.{and_first, and_second, or_first, or_second, or_cases, not_true, in_left, in_right, in_if, clash, in_within, in_meet}
+use Rattle.sx_grammar.specs.Grammar.{Grammar, both, either, many, deeper, select, begin, giving, has, starts, Whole, whole_empty, whole_token, whole_both, whole_left, whole_right, whole_none, whole_more, whole_deeper, whole_select, whole_begin, whole_giving, Front, front_nothing, front_token, front_first, front_second, front_left, front_right, front_one, front_more, front_opening, front_select_first, front_select, front_begin, front_giving, Out, done, fault, missing, ◌>>=◌, nullable, passed, stands, first, Deeper, run_with, more, fine}
+use Rattle.sx_grammar.proofs.Bools.{and_first, and_second, or_first, or_second, in_left, in_right, in_meet}
 
 abbrev pub rest_of : Out → List Lexeme
 rest_of (done v rest) = rest

@@ -1,8 +1,8 @@
 -- Fronts with many levels open have a token that opens one of them.
-use Rattle.std.proofs.Common.{◌≡◌, ℕ, zero, suc, ◌+◌, ◌≤◌, ◌<◌, List, [], ◌∷◌, length, true, cond, Bool, refl, arith, ◌⊎◌, inl, inr}
+use Rattle.std.proofs.Common.{◌≡◌, ℕ, zero, suc, ◌≤◌, ◌<◌, List, ◌∷◌, length, cond, refl, arith, ◌⊎◌, inl, inr}
 use Rattle.sx_grammar.specs.declared.lexemes.Lexeme.{Lexeme}
 use Rattle.sx_grammar.specs.Value.{Value}
-use Rattle.sx_grammar.specs.Grammar.{Grammar, both, either, many, deeper, select, begin, giving, stands, Whole, Front, front_nothing, front_token, front_first, front_second, front_left, front_right, front_one, front_more, front_opening, front_select_first, front_select, front_begin, front_giving, Opens, opens_here, opens_inside, opens_first, opens_second, opens_left, opens_right, opens_one, opens_more, opens_select_first, opens_select, opens_begin, opens_giving}
+use Rattle.sx_grammar.specs.Grammar.{Grammar, both, either, many, deeper, select, begin, giving, Whole, Front, front_nothing, front_token, front_first, front_second, front_left, front_right, front_one, front_more, front_opening, front_select_first, front_select, front_begin, front_giving, Opens, opens_here, opens_inside, opens_first, opens_second, opens_left, opens_right, opens_one, opens_more, opens_select_first, opens_select, opens_begin, opens_giving}
 use Rattle.sx_grammar.proofs.Beginnings.{begins_length, whole_begins}
 
 pub order : (m l : ℕ) → (m ≤ l) ⊎ (l < m)

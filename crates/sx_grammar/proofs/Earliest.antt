@@ -1,11 +1,11 @@
 -- A run finds the first missing level.
-use Rattle.std.proofs.Common.{◌≡◌, ℕ, zero, suc, ◌+◌, ◌≤◌, ◌<◌, List, [], ◌∷◌, ◌++◌, length, Bool, true, false, cond, not, ◌&&◌, ◌||◌, refl, sym, ap, ◌∙◌, subst, ◌⊎◌, inl, inr, arith}
+use Rattle.std.proofs.Common.{◌≡◌, ℕ, zero, suc, ◌≤◌, List, [], ◌∷◌, ◌++◌, length, Bool, true, false, cond, not, ◌&&◌, ap, ◌∙◌, ◌⊎◌, inl, inr, arith}
 use Rattle.sx_grammar.specs.declared.lexemes.Lexeme.{Lexeme}
-use Rattle.sx_grammar.specs.Value.{Value, nothing, leaf, pair}
+use Rattle.sx_grammar.specs.Value.{Value, pair}
 use Rattle.sx_grammar.specs.Classes.{class_of}
-use Rattle.sx_grammar.specs.Grammar.{Grammar, empty, token, both, either, many, deeper, select, begin, giving, has, starts, Whole, Front, Opens, opens_here, opens_inside, opens_first, opens_second, opens_left, opens_right, opens_one, opens_more, opens_select_first, opens_select, opens_begin, opens_giving, Out, done, fault, Cause, misfit, missing, opening_at, is_none, ◌>>=◌, nullable, stands, first, turns, Deeper, run_with, opening, run, apart, more, fine, IsFine}
-use Rattle.sx_grammar.proofs.Bools.{and_first, and_second, or_cases, not_true, in_left, in_right, in_if, clash}
-use Rattle.sx_grammar.proofs.Beginnings.{rest_of, IsDeep, first_cond, fine_cond, decide, Begins, stays, goes, begins_length, whole_begins}
+use Rattle.sx_grammar.specs.Grammar.{Grammar, both, either, deeper, select, begin, giving, has, starts, Whole, Opens, opens_here, opens_inside, opens_first, opens_second, opens_left, opens_right, opens_one, opens_more, opens_select_first, opens_select, opens_begin, opens_giving, Out, done, fault, missing, opening_at, is_none, ◌>>=◌, nullable, stands, first, turns, Deeper, run_with, opening, run, apart, more, fine, IsFine}
+use Rattle.sx_grammar.proofs.Bools.{and_first, and_second, not_true, clash}
+use Rattle.sx_grammar.proofs.Beginnings.{first_cond, fine_cond, decide, Begins, stays, goes, begins_length, whole_begins}
 use Rattle.sx_grammar.proofs.Steps.{chosen, passed, opening_shrinks, turns_at, ShrinksDeeper, FreshRuns, fresh_runs}
 use Rattle.sx_grammar.proofs.Progress.{GoesDeeper, opening_goes}
 use Rattle.sx_grammar.proofs.Runs.{Ran, exact, longer, deep, select_exact, ran_out, out_is, run_finds}

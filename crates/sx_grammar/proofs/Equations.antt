@@ -1,14 +1,14 @@
 -- Steps of a run.
-use Rattle.std.proofs.Common.{◌≡◌, ℕ, zero, suc, ◌+◌, ◌≤◌, ◌<◌, List, [], ◌∷◌, ◌++◌, length, Bool, true, false, cond, not, ◌&&◌, refl, sym, ap, ◌∙◌, subst, ◌⊎◌, inl, inr, arith, Option, Some, None}
+use Rattle.std.proofs.Common.{◌≡◌, ℕ, zero, suc, ◌≤◌, ◌<◌, List, [], ◌∷◌, length, Bool, true, false, cond, not, ◌&&◌, refl, sym, ap, ◌∙◌, arith}
 use Rattle.sx_grammar.specs.declared.lexemes.Lexeme.{Lexeme}
 use Rattle.sx_grammar.specs.Value.{Value, nothing, leaf, pair}
 use Rattle.sx_grammar.specs.Classes.{class_of}
-use Rattle.sx_grammar.specs.Grammar.{Grammar, empty, token, both, either, many, deeper, begin, giving, has, starts, Whole, select, Out, done, fault, Cause, misfit, missing, ◌>>=◌, nullable, first, turns, Deeper, run_with, opening, opening_at, is_none, bracket_classes, stands, run}
+use Rattle.sx_grammar.specs.Grammar.{Grammar, token, both, either, many, deeper, giving, has, starts, Whole, select, Out, done, fault, misfit, missing, ◌>>=◌, nullable, first, turns, run_with, opening, opening_at, is_none, bracket_classes, run}
 use Rattle.sx_grammar.specs.Rules.{body}
 use Rattle.sx_grammar.proofs.Bools.{not_true}
-use Rattle.sx_grammar.proofs.Beginnings.{rest_of, decide, Begins, stays, goes, whole_begins}
+use Rattle.sx_grammar.proofs.Beginnings.{stays, goes, whole_begins}
 use Rattle.sx_grammar.proofs.Steps.{chosen, passed, turns_end, opening_shrinks}
-use Rattle.sx_grammar.proofs.Fronts.{Found, found, found_with, FoundDeeper}
+use Rattle.sx_grammar.proofs.Fronts.{Found, found}
 
 module _ (l : ℕ) where
   pub token_end : (cs : List ℕ) (ts : List Lexeme) → ts ≡ [] → run body l (token cs) ts ≡ fault [] (misfit false)

@@ -1,10 +1,10 @@
 -- A run goes exactly as far as a front does.
-use Rattle.std.proofs.Common.{◌≡◌, ℕ, zero, suc, ◌+◌, ◌≤◌, ◌<◌, List, [], ◌∷◌, ◌++◌, length, Bool, true, false, cond, not, ◌&&◌, ◌||◌, refl, sym, ap, ◌∙◌, subst, ◌⊎◌, inl, inr, arith}
+use Rattle.std.proofs.Common.{◌≡◌, ℕ, zero, suc, ◌≤◌, ◌<◌, List, [], ◌∷◌, ◌++◌, length, Bool, true, false, cond, not, ◌&&◌, refl, sym, ap, ◌∙◌, subst, ◌⊎◌, inl, inr, arith}
 use Rattle.sx_grammar.specs.declared.lexemes.Lexeme.{Lexeme}
 use Rattle.sx_grammar.specs.Value.{Value, nothing, leaf, pair}
 use Rattle.sx_grammar.specs.Classes.{class_of}
-use Rattle.sx_grammar.specs.Grammar.{Grammar, empty, token, both, either, many, deeper, select, begin, giving, has, starts, Whole, whole_empty, whole_token, whole_both, whole_left, whole_right, whole_none, whole_more, whole_deeper, whole_select, whole_begin, whole_giving, Front, front_nothing, front_token, front_first, front_second, front_left, front_right, front_one, front_more, front_opening, front_select_first, front_select, front_begin, front_giving, Out, done, fault, Cause, misfit, missing, opening_at, is_none, bracket_classes, ◌>>=◌, nullable, stands, first, turns, Deeper, run_with, opening, run, apart, within, more, fine, IsFine}
-use Rattle.sx_grammar.proofs.Bools.{and_first, and_second, or_first, or_second, or_cases, not_true, in_left, in_right, in_if, clash, in_within}
+use Rattle.sx_grammar.specs.Grammar.{Grammar, empty, token, both, either, many, deeper, select, begin, giving, has, starts, Whole, whole_empty, whole_token, whole_both, whole_left, whole_right, whole_none, whole_more, whole_deeper, whole_select, whole_begin, whole_giving, Front, front_nothing, front_token, front_first, front_second, front_left, front_right, front_one, front_more, front_opening, front_select_first, front_select, front_begin, front_giving, Out, done, fault, Cause, misfit, missing, opening_at, is_none, bracket_classes, ◌>>=◌, nullable, stands, first, turns, Deeper, run_with, opening, run, apart, more, fine, IsFine}
+use Rattle.sx_grammar.proofs.Bools.{and_first, and_second, not_true, clash}
 use Rattle.sx_grammar.proofs.Beginnings.{rest_of, IsDeep, deep_then, first_cond, fine_cond, decide, Begins, stays, goes, whole_begins, Moves, still, moves, front_moves}
 use Rattle.sx_grammar.proofs.Steps.{Shrinks, then_shrinks, Fresh, FreshRuns, fresh_runs, fresh_turns, free_then, fresh_map, fault_map, ShrinksDeeper, run_shrinks, opening_shrinks, cond_shrinks, fresh_cond, chosen, passed, rest_then, turns_shrinks, turns_at}
 use Rattle.sx_grammar.proofs.Progress.{GoesDeeper, opening_goes}

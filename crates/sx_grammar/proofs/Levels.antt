@@ -1,15 +1,13 @@
 -- Where a run finds a level missing.
-use Rattle.std.proofs.Common.{◌≡◌, ℕ, zero, suc, ◌+◌, ◌≤◌, ◌<◌, List, [], ◌∷◌, ◌++◌, length, Bool, true, false, cond, not, ◌&&◌, ◌||◌, refl, sym, ap, ◌∙◌, subst, ◌⊎◌, inl, inr, arith}
+use Rattle.std.proofs.Common.{◌≡◌, ℕ, zero, suc, ◌≤◌, ◌<◌, List, [], ◌∷◌, ◌++◌, length, Bool, true, false, cond, refl, arith}
 use Rattle.sx_grammar.specs.declared.lexemes.Lexeme.{Lexeme}
 use Rattle.sx_grammar.specs.Value.{Value, nothing, leaf, pair}
 use Rattle.sx_grammar.specs.Classes.{class_of}
-use Rattle.sx_grammar.specs.Grammar.{Grammar, empty, token, both, either, many, deeper, select, begin, giving, has, starts, Whole, Front, Opens, opens_here, opens_inside, opens_first, opens_second, opens_left, opens_right, opens_one, opens_more, opens_select_first, opens_select, opens_begin, opens_giving, Out, done, fault, Cause, misfit, missing, opening_at, ◌>>=◌, nullable, stands, first, turns, Deeper, run_with, opening, run, apart, more, fine, IsFine}
-use Rattle.sx_grammar.proofs.Bools.{and_first, and_second, or_cases, not_true, in_left, in_right, in_if, clash, in_meet}
-use Rattle.sx_grammar.proofs.Beginnings.{rest_of, IsDeep, first_cond, decide, Begins, stays, goes, whole_begins}
-use Rattle.sx_grammar.proofs.Steps.{chosen, passed, run_shrinks, opening_shrinks, turns_shrinks, turns_at, Shrinks, then_shrinks, ShrinksDeeper}
-use Rattle.sx_grammar.proofs.Progress.{GoesDeeper, opening_goes}
-use Rattle.sx_grammar.proofs.Runs.{Ran, exact, longer, deep, ran_out, out_is, run_finds}
-use Rattle.sx_grammar.proofs.Fronts.{Found, found_with, found, FoundDeeper, found_opening, HasLevel, has_level}
+use Rattle.sx_grammar.specs.Grammar.{Grammar, empty, token, both, either, many, deeper, select, begin, giving, has, starts, Opens, opens_here, opens_inside, opens_first, opens_second, opens_left, opens_right, opens_one, opens_more, opens_select_first, opens_select, opens_begin, opens_giving, Out, done, fault, misfit, missing, opening_at, ◌>>=◌, stands, first, turns, Deeper, run_with, opening, run}
+use Rattle.sx_grammar.proofs.Bools.{in_left, in_right, in_meet}
+use Rattle.sx_grammar.proofs.Beginnings.{rest_of, first_cond, Begins, stays, goes, whole_begins}
+use Rattle.sx_grammar.proofs.Steps.{run_shrinks, opening_shrinks, Shrinks, ShrinksDeeper}
+use Rattle.sx_grammar.proofs.Fronts.{Found, found_with, FoundDeeper, found_opening, HasLevel, has_level}
 
 -- A missing level is one that a token opens, behind more tokens than there are levels.
 abbrev pub Deep : (ℕ → Grammar) → ℕ → Grammar → List Lexeme → Out → Type 0

@@ -1,11 +1,11 @@
 -- A run goes on where a token may come first, unless a level is missing there.
-use Rattle.std.proofs.Common.{◌≡◌, ℕ, zero, suc, ◌+◌, ◌≤◌, ◌<◌, List, [], ◌∷◌, ◌++◌, length, Bool, true, false, cond, not, ◌&&◌, ◌||◌, refl, sym, ap, ◌∙◌, subst, ◌⊎◌, inl, inr, arith, eqb-true}
+use Rattle.std.proofs.Common.{◌≡◌, ℕ, zero, suc, ◌≤◌, ◌<◌, List, [], ◌∷◌, ◌++◌, length, Bool, true, false, cond, not, ◌&&◌, ◌||◌, refl, sym, ap, ◌∙◌, subst, ◌⊎◌, inl, inr, arith, eqb-true}
 use Rattle.std.specs.Prelude.{nat_eq}
 use Rattle.sx_grammar.specs.declared.lexemes.Lexeme.{Lexeme}
 use Rattle.sx_grammar.specs.Value.{Value, nothing, leaf, pair}
 use Rattle.sx_grammar.specs.Classes.{class_of}
-use Rattle.sx_grammar.specs.Grammar.{Grammar, empty, token, both, either, many, deeper, select, begin, giving, has, starts, stands, Out, done, fault, Cause, misfit, missing, ◌>>=◌, nullable, meet, passed as let_pass, first, turns, Deeper, run_with, opening, opening_at, apart, more, fine}
-use Rattle.sx_grammar.proofs.Bools.{and_first, and_second, or_cases, not_true, in_left, in_right, in_meet}
+use Rattle.sx_grammar.specs.Grammar.{Grammar, empty, token, both, either, many, deeper, select, begin, giving, has, starts, stands, Out, done, fault, missing, ◌>>=◌, nullable, meet, passed as let_pass, first, turns, Deeper, run_with, opening, opening_at, apart, more, fine}
+use Rattle.sx_grammar.proofs.Bools.{and_first, and_second, or_cases, in_left, in_right, in_meet}
 use Rattle.sx_grammar.proofs.Beginnings.{rest_of, decide}
 use Rattle.sx_grammar.proofs.Steps.{chosen, passed, Shrinks, then_shrinks, ShrinksDeeper, run_shrinks, cond_shrinks, opening_shrinks, turns_shrinks, turns_at, turns_end}
 

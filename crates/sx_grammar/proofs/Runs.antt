@@ -1,12 +1,12 @@
 -- A run finds what the grammar derives, unless a part may go on, or a level is missing.
-use Rattle.std.proofs.Common.{◌≡◌, ℕ, zero, suc, ◌+◌, ◌≤◌, ◌<◌, List, [], ◌∷◌, ◌++◌, length, Bool, true, false, cond, not, ◌&&◌, ◌||◌, refl, sym, ap, ◌∙◌, subst, ◌⊎◌, inl, inr, arith}
+use Rattle.std.proofs.Common.{◌≡◌, ℕ, zero, suc, ◌≤◌, ◌<◌, List, ◌∷◌, ◌++◌, length, Bool, true, false, cond, not, ◌&&◌, refl, sym, ap, ◌∙◌, subst, ◌⊎◌, inl, inr, arith}
 use Rattle.sx_grammar.specs.declared.lexemes.Lexeme.{Lexeme}
 use Rattle.sx_grammar.specs.Value.{Value, nothing, leaf, pair}
 use Rattle.sx_grammar.specs.Classes.{class_of}
-use Rattle.sx_grammar.specs.Grammar.{Grammar, empty, token, both, either, many, deeper, select, begin, giving, has, starts, Whole, whole_empty, whole_token, whole_both, whole_left, whole_right, whole_none, whole_more, whole_deeper, whole_select, whole_begin, whole_giving, Front, front_nothing, front_token, front_first, front_second, front_left, front_right, front_one, front_more, front_opening, front_select_first, front_select, front_begin, front_giving, Out, done, fault, Cause, misfit, missing, opening_at, is_none, bracket_classes, ◌>>=◌, nullable, passed as let_pass, stands, first, turns, Deeper, run_with, opening, run, apart, within, more, fine, IsFine}
-use Rattle.sx_grammar.proofs.Bools.{and_first, and_second, or_first, or_second, or_cases, not_true, in_left, in_right, in_if, clash, in_within}
-use Rattle.sx_grammar.proofs.Beginnings.{rest_of, IsDeep, deep_then, null_cond, first_cond, more_cond, fine_cond, run_cond, decide, Begins, stays, goes, begins_length, whole_begins, pass_cond, Moves, still, moves, front_moves}
-use Rattle.sx_grammar.proofs.Steps.{Shrinks, then_shrinks, ShrinksDeeper, cond_shrinks, turns_shrinks, run_shrinks, opening_shrinks, Fresh, fresh_done, fresh_cond, fresh_then, fresh_map, FreshDeeper, fresh_turns, run_fresh, opening_fresh, FreshRuns, fresh_runs, free_then, fault_map, rest_then, chosen, passed, turns_at, turns_end}
+use Rattle.sx_grammar.specs.Grammar.{Grammar, empty, token, both, either, many, deeper, select, begin, giving, has, starts, Whole, whole_empty, whole_token, whole_both, whole_left, whole_right, whole_none, whole_more, whole_deeper, whole_select, whole_begin, whole_giving, Out, done, fault, misfit, opening_at, is_none, bracket_classes, ◌>>=◌, nullable, passed as let_pass, stands, first, turns, Deeper, run_with, opening, run, apart, more, fine, IsFine}
+use Rattle.sx_grammar.proofs.Bools.{and_first, and_second, not_true, in_left, in_right, clash, in_within}
+use Rattle.sx_grammar.proofs.Beginnings.{rest_of, IsDeep, deep_then, first_cond, more_cond, fine_cond, run_cond, decide, Begins, stays, goes, begins_length, whole_begins, pass_cond}
+use Rattle.sx_grammar.proofs.Steps.{Shrinks, then_shrinks, ShrinksDeeper, cond_shrinks, turns_shrinks, run_shrinks, opening_shrinks, Fresh, fresh_cond, fresh_map, fresh_turns, FreshRuns, fresh_runs, free_then, fault_map, rest_then, chosen, passed, turns_at, turns_end}
 use Rattle.sx_grammar.proofs.Progress.{Went, went, stuck, goes_on, opening_goes, GoesDeeper, went_turns}
 
 -- How a run compares with what the grammar derives.

@@ -1,11 +1,11 @@
 -- Steps of a run: it goes forward, and where it stops at a bracket.
-use Rattle.std.proofs.Common.{◌≡◌, ℕ, zero, suc, ◌+◌, ◌≤◌, ◌<◌, List, [], ◌∷◌, ◌++◌, length, Bool, true, false, cond, not, ◌&&◌, ◌||◌, refl, sym, ap, ◌∙◌, subst, ◌⊎◌, inl, inr, arith}
+use Rattle.std.proofs.Common.{◌≡◌, ℕ, zero, suc, ◌≤◌, List, [], ◌∷◌, length, Bool, true, false, cond, ◌&&◌, refl, ap, subst, arith}
 use Rattle.sx_grammar.specs.declared.lexemes.Lexeme.{Lexeme}
 use Rattle.sx_grammar.specs.Value.{Value, nothing, leaf, pair}
 use Rattle.sx_grammar.specs.Classes.{class_of}
-use Rattle.sx_grammar.specs.Grammar.{Grammar, empty, token, both, either, many, deeper, select, begin, giving, has, starts, Whole, whole_empty, whole_token, whole_both, whole_left, whole_right, whole_none, whole_more, whole_deeper, whole_select, whole_begin, whole_giving, Front, front_nothing, front_token, front_first, front_second, front_left, front_right, front_one, front_more, front_opening, front_select_first, front_select, front_begin, front_giving, Out, done, fault, Cause, misfit, missing, opening_at, is_none, bracket_classes, ◌>>=◌, nullable, passed as let_pass, stands, first, turns, Deeper, run_with, opening, run, apart, within, more, fine, IsFine}
-use Rattle.sx_grammar.proofs.Bools.{and_first, and_second, or_first, or_second, or_cases, not_true, in_left, in_right, in_if, clash, in_within}
-use Rattle.sx_grammar.proofs.Beginnings.{rest_of, IsDeep, deep_then, null_cond, first_cond, more_cond, fine_cond, run_cond, decide, Begins, stays, goes, begins_length, whole_begins, pass_cond, Moves, still, moves, front_moves}
+use Rattle.sx_grammar.specs.Grammar.{Grammar, empty, token, both, either, many, deeper, select, begin, giving, has, starts, Out, done, fault, Cause, misfit, opening_at, is_none, bracket_classes, ◌>>=◌, stands, first, turns, Deeper, run_with, opening}
+use Rattle.sx_grammar.proofs.Bools.{and_first, and_second}
+use Rattle.sx_grammar.proofs.Beginnings.{rest_of}
 
 -- A run goes forward.
 abbrev pub Shrinks : (List Lexeme → Out) → Type 0

@@ -1,17 +1,17 @@
 -- What a run answers is what the table says.
-use Rattle.std.proofs.Common.{◌≡◌, ℕ, zero, suc, ◌+◌, ◌≤◌, ◌<◌, List, [], ◌∷◌, length, Bool, true, false, refl, sym, ap, ◌∙◌, subst, ◌⊎◌, inl, inr, arith}
+use Rattle.std.proofs.Common.{◌≡◌, ℕ, ◌≤◌, List, [], length, Bool, true, false, refl, sym, ap, ◌∙◌, subst, inl, inr, arith}
 use Rattle.sx_grammar.specs.declared.lexemes.Lexeme.{Lexeme}
 use Rattle.sx_grammar.specs.Value.{Value}
-use Rattle.sx_grammar.specs.Grammar.{Grammar, Whole, Front, Opens, Out, done, fault, Cause, misfit, missing, starts, run, fine, is_none, bracket_classes, opening}
+use Rattle.sx_grammar.specs.Grammar.{Grammar, Opens, Out, done, fault, Cause, misfit, missing, run, fine, is_none}
 use Rattle.sx_grammar.specs.Rules.{body, tail, program, head}
-use Rattle.sx_grammar.specs.Answer.{IsFarthest, IsShallow, IsRead, HasRoom, IsMisfit, OpensTooMuch, IsBlocked, IsTooDeep, opens_too_much, is_blocked, AtMostOne}
+use Rattle.sx_grammar.specs.Answer.{IsFarthest, IsShallow, IsRead, IsMisfit, OpensTooMuch, IsBlocked, IsTooDeep, opens_too_much, is_blocked, AtMostOne}
 use Rattle.sx_grammar.proofs.Beginnings.{rest_of, IsDeep}
 use Rattle.sx_grammar.proofs.Steps.{fresh_runs}
 use Rattle.sx_grammar.proofs.Runs.{Ran, exact, longer, deep, run_finds}
 use Rattle.sx_grammar.proofs.Fronts.{Ended, Found, found, Reach, far, missed, run_reaches}
 use Rattle.sx_grammar.proofs.Levels.{Deep, run_deep}
 use Rattle.sx_grammar.proofs.Earliest.{IsMissing, run_misses}
-use Rattle.sx_grammar.proofs.Counts.{order, front_opens, Opened, opens_front, Open}
+use Rattle.sx_grammar.proofs.Counts.{order, front_opens, opens_front}
 use Rattle.sx_grammar.proofs.Table.{is_fine, program_fine, head_fine}
 
 module _ (l : ℕ) (g : Grammar) (f : fine tail g ≡ true) (ts : List Lexeme) where

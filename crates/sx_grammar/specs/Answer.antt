@@ -3,7 +3,7 @@ use Rattle.std.specs.Prelude.{◌≡◌, ℕ, suc, ◌≤◌, ◌<◌, List, [],
 use Rattle.sx_grammar.specs.declared.lexemes.Lexeme.{Lexeme}
 use Rattle.sx_grammar.specs.Value.{Value}
 use Rattle.sx_grammar.specs.Grammar.{Grammar, Whole, Front, starts, bracket_classes}
-use Rattle.sx_grammar.specs.Rules.{body, program, head}
+use Rattle.sx_grammar.specs.Rules.{body}
 
 -- the greatest number of levels that may be open at one place
 abbrev pub deepest : ℕ

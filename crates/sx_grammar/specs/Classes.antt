@@ -1,5 +1,5 @@
 -- The classes of lexemes: the sort, and whether a line end stands before the token.
-use Rattle.std.specs.Prelude.{ℕ, ◌+◌, ◌*◌, cond, List, [], ◌∷◌, Bool, true, false, nat_eq, ◌||◌}
+use Rattle.std.specs.Prelude.{ℕ, ◌+◌, ◌*◌, cond, List, [], ◌∷◌}
 use Rattle.sx_grammar.specs.declared.lexemes.Lexeme.{Lexeme}
 use Rattle.sx_grammar.specs.declared.lexemes.Sort.{Sort}
 use Rattle.sx_grammar.specs.declared.lexemes.Sort.TheVariants as sorts

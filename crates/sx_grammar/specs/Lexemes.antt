@@ -1,5 +1,5 @@
 -- The lexemes of a text: each token with its sort.
-use Rattle.std.specs.Prelude.{ℕ, List, [], ◌∷◌, Bool, true, false, cond, Option, Some, None, slice_get, codes}
+use Rattle.std.specs.Prelude.{ℕ, List, [], ◌∷◌, cond, Option, Some, None, slice_get, codes}
 use Rattle.std.specs.Str.{bytes_eq}
 use Rattle.sx_token.specs.declared.kinds.Token.{Token}
 use Rattle.sx_token.specs.declared.kinds.Kind.{Kind}

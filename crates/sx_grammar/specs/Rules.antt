@@ -1,12 +1,10 @@
 -- The table of the grammar: each production with the part of the tree that it stands for, and the rules behind a token that opens a level.
-use Rattle.std.specs.Prelude.{ℕ, zero, suc, ◌+◌, ◌*◌, List, [], ◌∷◌, ◌++◌, Bool, true, false, cond, not, ◌&&◌, ◌||◌, nat_eq, Option, Some, None}
+use Rattle.std.specs.Prelude.{ℕ, zero, suc, List, [], ◌∷◌, ◌++◌, Bool, true, false, not, Option, Some, None}
 use Rattle.sx_span.specs.declared.places.Span.{Span}
 use Rattle.sx_token.specs.declared.kinds.Kind.{Kind}
 use Rattle.sx_token.specs.declared.kinds.Kind.TheVariants as kinds
 use Rattle.sx_token.specs.declared.spellings.Operator.{Operator}
 use Rattle.sx_token.specs.declared.spellings.Operator.TheVariants as operators
-use Rattle.sx_token.specs.declared.spellings.Word.{Word}
-use Rattle.sx_token.specs.declared.spellings.Word.TheVariants as words
 use Rattle.sx_tree.specs.declared.written_types.Name.{Name}
 use Rattle.sx_tree.specs.declared.written_types.WrittenType.{WrittenType}
 use Rattle.sx_tree.specs.declared.written_types.TypeForm.TheVariants as type_forms
@@ -38,7 +36,6 @@ use Rattle.sx_tree.specs.declared.declarations.AccessorKind.{AccessorKind}
 use Rattle.sx_tree.specs.declared.declarations.AccessorKind.TheVariants as accessor_kinds
 use Rattle.sx_tree.specs.declared.declarations.Function.{Function}
 use Rattle.sx_tree.specs.declared.declarations.FunctionHead.{FunctionHead}
-use Rattle.sx_tree.specs.declared.declarations.Head.{Head}
 use Rattle.sx_tree.specs.declared.declarations.Head.TheVariants as heads
 use Rattle.sx_tree.specs.declared.declarations.Item.{Item}
 use Rattle.sx_tree.specs.declared.declarations.Item.TheVariants as item_forms
@@ -48,9 +45,7 @@ use Rattle.sx_tree.specs.declared.declarations.Member.{Member}
 use Rattle.sx_tree.specs.declared.declarations.Member.TheVariants as member_forms
 use Rattle.sx_tree.specs.declared.declarations.Parameter.{Parameter}
 use Rattle.sx_tree.specs.declared.declarations.Subscript.{Subscript}
-use Rattle.sx_tree.specs.declared.declarations.SubscriptHead.{SubscriptHead}
 use Rattle.sx_tree.specs.declared.declarations.TypeDeclaration.{TypeDeclaration}
-use Rattle.sx_tree.specs.declared.declarations.TypeHead.{TypeHead}
 use Rattle.sx_tree.specs.declared.declarations.TypeKind.{TypeKind}
 use Rattle.sx_tree.specs.declared.declarations.TypeKind.TheVariants as type_kinds
 use Rattle.sx_tree.specs.declared.declarations.Variable.{Variable}
@@ -58,8 +53,10 @@ use Rattle.sx_tree.specs.declared.declarations.VariableHead.{VariableHead}
 use Rattle.sx_grammar.specs.declared.lexemes.Lexeme.{Lexeme}
 use Rattle.sx_grammar.specs.declared.lexemes.Sort.{Sort}
 use Rattle.sx_grammar.specs.declared.lexemes.Sort.TheVariants as sorts
-use Rattle.sx_grammar.specs.Classes.{any, here, below, number}
-use Rattle.sx_grammar.specs.Value.{Value, nothing, leaf, pair, a_type, a_type_parameter, type_parameters, names_of_parameter, a_marked, a_parameter, parameters, a_head, an_expr, exprs, a_part, a_link, an_argument, arguments, a_signature, a_literal, a_closure, a_closure_parameter, if_parts, a_statement, statements, a_block, an_accessor, accessors, a_member, members, an_item, items}
+use Rattle.sx_grammar.specs.declared.lexemes.Mode.{Mode}
+use Rattle.sx_grammar.specs.declared.lexemes.Mode.TheVariants as modes
+use Rattle.sx_grammar.specs.Classes.{any, here, below}
+use Rattle.sx_grammar.specs.Value.{Value, nothing, leaf, pair, a_type, a_type_parameter, type_parameters, names_of_parameter, a_marked, a_parameter, parameters, a_head, an_expr, exprs, a_part, part_list, a_link, link_list, name_list, closure_parameters, an_argument, arguments, a_signature, a_literal, a_closure, a_closure_parameter, if_parts, a_statement, statements, a_block, an_accessor, accessors, a_member, members, an_item, items}
 use Rattle.sx_grammar.specs.Grammar.{Grammar, empty, token, both, either, many, deeper, select, begin, giving}
 
 -- The rules behind a token that opens a level.
@@ -376,11 +373,7 @@ subscript_head = giving subscript_value (both (token (any (sorts.Subscript ∷ [
 unfoldable pub head : Grammar
 head = either mutating_head (either function_head (either (type_head (sorts.Struct ∷ sorts.Class ∷ [])) (either (variable_head (sorts.Let ∷ sorts.Var ∷ [])) subscript_head)))
 
--- Expressions. The mode tells what an opening brace is outside brackets: in a condition it begins the block, and where an initial value may end one with observers is no trailing closure.
-pub data Mode : Type 0 where
-  free : Mode
-  condition : Mode
-  initial : Mode
+-- Expressions. The mode tells what an opening brace is outside brackets.
 
 abbrev pub no_expr : Expr
 no_expr = record { span = no_span; form = forms.SelfWord }
@@ -411,9 +404,9 @@ unfoldable pub closure_at : List ℕ → Grammar
 closure_at cs = giving closure_value (deeper cs literal_rule)
 
 unfoldable pub trailing : Mode → Grammar
-trailing free = optional (closure_at (here braces))
-trailing initial = optional (closure_at (here (sorts.OpenBrace ∷ [])))
-trailing condition = empty
+trailing modes.Free = optional (closure_at (here braces))
+trailing modes.Initial = optional (closure_at (here (sorts.OpenBrace ∷ [])))
+trailing modes.Condition = empty
 
 abbrev pub expr_of : Span → ExprForm → Value
 expr_of s f = an_expr (record { span = s; form = f })
@@ -500,8 +493,15 @@ abbrev pub postfixed : Expr → List Part → Expr
 postfixed e [] = e
 postfixed e (p ∷ ps) = record { span = record { start = e.span.start; end = last_part 0 (p ∷ ps) }; form = forms.Postfix e (p ∷ ps) }
 
+abbrev pub parts_in : Value → List Part
+parts_in (part_list ps) = ps
+parts_in v = []
+
+unfoldable pub parts_behind : Mode → Grammar
+parts_behind m = giving (λ v. part_list (list_in part_in v)) (many (part m))
+
 unfoldable pub postfix : Mode → Grammar
-postfix m = giving (λ v. an_expr (postfixed (expr_in (first_of v)) (list_in part_in (second_of v)))) (both (primary m) (many (part m)))
+postfix m = giving (λ v. an_expr (postfixed (expr_in (first_of v)) (parts_in (second_of v)))) (both (primary m) (parts_behind m))
 
 abbrev pub negated : Value → Value
 negated (pair m (an_expr e)) = expr_of (from_to (span_of m) e.span) (forms.Negate e)
@@ -515,9 +515,9 @@ abbrev pub closure_expr : Value → Value
 closure_expr v = expr_of (span_of v) (forms.Closure (closure_in v))
 
 unfoldable pub operand : Mode → Grammar
-operand free = either (giving closure_expr (closure_at (any braces))) (postfix free)
-operand initial = either (giving closure_expr (closure_at (any braces))) (postfix initial)
-operand condition = postfix condition
+operand modes.Free = either (giving closure_expr (closure_at (any braces))) (postfix modes.Free)
+operand modes.Initial = either (giving closure_expr (closure_at (any braces))) (postfix modes.Initial)
+operand modes.Condition = postfix modes.Condition
 
 unfoldable pub unary : Mode → Grammar
 unary m = either (giving negated (both (token (any (sorts.Negate ∷ []))) (either (token (any (sorts.LeastInt ∷ []))) (postfix m)))) (either (giving inverted (both (token (any (sorts.Not ∷ []))) (postfix m))) (operand m))
@@ -563,15 +563,18 @@ abbrev pub chained : Expr → List Link → Expr
 chained e [] = e
 chained e (l ∷ ls) = record { span = record { start = e.span.start; end = last_link 0 (l ∷ ls) }; form = forms.Chain e (l ∷ ls) }
 
+abbrev pub links_in : Value → List Link
+links_in (link_list ls) = ls
+links_in v = []
+
+unfoldable pub links : List Sort → Grammar → Grammar
+links ss g = giving (λ v. link_list (list_in link_in v)) (many (link ss g))
+
 abbrev pub chain_value : Value → Value
-chain_value v = an_expr (chained (expr_in (first_of v)) (list_in link_in (second_of v)))
+chain_value v = an_expr (chained (expr_in (first_of v)) (links_in (second_of v)))
 
 abbrev pub chain : List Sort → Grammar → Grammar
-chain ss g = giving chain_value (both g (many (link ss g)))
-
-abbrev pub one_link : Value → List Link
-one_link (a_link l) = l ∷ []
-one_link v = []
+chain ss g = giving chain_value (both g (links ss g))
 
 unfoldable pub product : Mode → Grammar
 product m = chain (sorts.Times ∷ []) (unary m)
@@ -579,8 +582,11 @@ product m = chain (sorts.Times ∷ []) (unary m)
 unfoldable pub sum : Mode → Grammar
 sum m = chain (sorts.Plus ∷ sorts.Minus ∷ []) (product m)
 
+unfoldable pub relation : Mode → Grammar
+relation m = either (giving (λ v. link_list (link_in v ∷ [])) (link (sorts.Relation ∷ []) (sum m))) (giving (λ v. link_list []) empty)
+
 unfoldable pub compare : Mode → Grammar
-compare m = giving (λ v. an_expr (chained (expr_in (first_of v)) (one_link (second_of v)))) (both (sum m) (optional (link (sorts.Relation ∷ []) (sum m))))
+compare m = giving chain_value (both (sum m) (relation m))
 
 unfoldable pub conjunction : Mode → Grammar
 conjunction m = chain (sorts.And ∷ []) (compare m)
@@ -589,7 +595,7 @@ unfoldable pub expr : Mode → Grammar
 expr m = chain (sorts.Or ∷ []) (conjunction m)
 
 unfoldable pub bracket : Grammar
-bracket = both (expr free) (token (any (sorts.CloseRound ∷ [])))
+bracket = both (expr modes.Free) (token (any (sorts.CloseRound ∷ [])))
 
 -- Arguments.
 abbrev pub argument_of : ℕ → Option Name → Option ℕ → Expr → Value
@@ -628,10 +634,10 @@ argument_value (pair e (pair c v)) = labelled_argument (name_of_expr (expr_in e)
 argument_value v = nothing
 
 unfoldable pub reference : Grammar
-reference = both (token (any (sorts.Ampersand ∷ []))) (postfix free)
+reference = both (token (any (sorts.Ampersand ∷ []))) (postfix modes.Free)
 
 unfoldable pub argument : Grammar
-argument = either (giving plain_argument reference) (giving argument_value (select (expr free) is_name (optional (both (token (any (sorts.Colon ∷ []))) (either reference (expr free)))) empty))
+argument = either (giving plain_argument reference) (giving argument_value (select (expr modes.Free) is_name (optional (both (token (any (sorts.Colon ∷ []))) (either reference (expr modes.Free)))) empty))
 
 abbrev pub argument_in : Value → Argument
 argument_in (an_argument a) = a
@@ -641,7 +647,7 @@ unfoldable pub argument_list : Grammar
 argument_list = both (either (giving (λ v. arguments (listed_in argument_in v)) (listed argument)) (giving (λ v. arguments []) empty)) (token (any (sorts.CloseRound ∷ [])))
 
 unfoldable pub indices : Grammar
-indices = both (giving (λ v. exprs (listed_in expr_in v)) (listed (expr free))) (token (any (sorts.CloseSquare ∷ [])))
+indices = both (giving (λ v. exprs (listed_in expr_in v)) (listed (expr modes.Free))) (token (any (sorts.CloseSquare ∷ [])))
 
 -- Statements.
 abbrev pub statement_of : Span → StatementForm → Value
@@ -673,7 +679,7 @@ local_of (a_head (heads.Variable h)) (an_expr e) = statement_of (from_to h.span 
 local_of h e = nothing
 
 unfoldable pub local : Grammar
-local = giving (λ v. local_of (first_of v) (second_of (second_of v))) (both (variable_head (sorts.Let ∷ sorts.Var ∷ [])) (both (token (any (sorts.Assign ∷ []))) (expr free)))
+local = giving (λ v. local_of (first_of v) (second_of (second_of v))) (both (variable_head (sorts.Let ∷ sorts.Var ∷ [])) (both (token (any (sorts.Assign ∷ []))) (expr modes.Free)))
 
 abbrev pub if_statement : Value → Value → Value
 if_statement w (if_parts c b e end) = statement_of (record { start = (span_of w).start; end = end }) (statement_forms.If c b e)
@@ -691,7 +697,7 @@ unfoldable pub else_part : Grammar
 else_part = optional (giving second_of (both (token (any (sorts.Else ∷ []))) (either (giving if_value (deeper (any (sorts.If ∷ [])) else_if_rule)) block)))
 
 unfoldable pub if_tail : Grammar
-if_tail = giving (λ v. if_parts_of (expr_in (first_of v)) (block_in (first_of (second_of v))) (second_of (second_of v))) (both (expr condition) (both block else_part))
+if_tail = giving (λ v. if_parts_of (expr_in (first_of v)) (block_in (first_of (second_of v))) (second_of (second_of v))) (both (expr modes.Condition) (both block else_part))
 
 abbrev pub starters : List Sort
 starters = sorts.Int ∷ sorts.True ∷ sorts.False ∷ sorts.SelfWord ∷ sorts.Negate ∷ sorts.Not ∷ sorts.OpenRound ∷ sorts.OpenBrace ∷ sorts.OpenObservers ∷ names
@@ -711,7 +717,7 @@ jump_value (leaf l) = statement_of l.token.span (jump_of l.sort)
 jump_value v = nothing
 
 unfoldable pub keyword_statement : Grammar
-keyword_statement = either (giving if_value (both (token (any (sorts.If ∷ []))) if_tail)) (either (giving while_value (both (token (any (sorts.While ∷ []))) (both (expr condition) block))) (either (giving return_value (both (token (any (sorts.Return ∷ []))) (optional (begin (here starters) (expr free))))) (giving jump_value (token (any (sorts.Break ∷ sorts.Continue ∷ []))))))
+keyword_statement = either (giving if_value (both (token (any (sorts.If ∷ []))) if_tail)) (either (giving while_value (both (token (any (sorts.While ∷ []))) (both (expr modes.Condition) block))) (either (giving return_value (both (token (any (sorts.Return ∷ []))) (optional (begin (here starters) (expr modes.Free))))) (giving jump_value (token (any (sorts.Break ∷ sorts.Continue ∷ []))))))
 
 abbrev pub assignment_by : Operator → Assignment
 assignment_by operators.PlusAssign = assignments.Add
@@ -730,10 +736,10 @@ assigned_of e (pair o x) = statement_of (from_to e.span (span_of x)) (statement_
 assigned_of e v = statement_of e.span (statement_forms.Expr e)
 
 unfoldable pub assigned : Grammar
-assigned = optional (both (token (any (sorts.Assign ∷ sorts.Compound ∷ []))) (expr free))
+assigned = optional (both (token (any (sorts.Assign ∷ sorts.Compound ∷ []))) (expr modes.Free))
 
 unfoldable pub expr_statement : Grammar
-expr_statement = giving (λ v. assigned_of (expr_in (first_of v)) (second_of v)) (both (expr free) assigned)
+expr_statement = giving (λ v. assigned_of (expr_in (first_of v)) (second_of v)) (both (expr modes.Free) assigned)
 
 unfoldable pub statement : Grammar
 statement = either keyword_statement expr_statement
@@ -761,7 +767,7 @@ unfoldable pub block_list : Grammar
 block_list = both block_items (token (any (sorts.CloseBrace ∷ [])))
 
 -- The inside of a closure literal. A first bracket may be that of a signature.
-abbrev pub others : Grammar
+unfoldable pub others : Grammar
 others = giving second_of (both separator block_items)
 
 abbrev pub literal_of : Statement → List Statement → Value
@@ -785,13 +791,20 @@ abbrev pub is_name_statement : Value → Bool
 is_name_statement (a_statement s) = is_name_statement_form (out-StatementForm s.form)
 is_name_statement v = false
 
+abbrev pub names_in : Value → List Name
+names_in (name_list ns) = ns
+names_in v = []
+
+unfoldable pub names_behind : Grammar
+names_behind = giving (λ v. name_list (list_in name_in v)) (many (after_comma a_name))
+
 abbrev pub named_literal : Value → Value
 named_literal (pair (a_statement s) (statements ss)) = literal_of s ss
-named_literal (pair (a_statement s) (pair ns v)) = a_literal (signatures.Names (name_of_statement s ∷ list_in name_in ns)) (statements_in (second_of v))
+named_literal (pair (a_statement s) (pair ns v)) = a_literal (signatures.Names (name_of_statement s ∷ names_in ns)) (statements_in (second_of v))
 named_literal v = nothing
 
 unfoldable pub named_signature : Grammar
-named_signature = both (many (after_comma a_name)) (both (token (any (sorts.In ∷ []))) block_items)
+named_signature = both names_behind (both (token (any (sorts.In ∷ []))) block_items)
 
 unfoldable pub from_other : Grammar
 from_other = giving named_literal (select (begin (any (sorts.Int ∷ sorts.True ∷ sorts.False ∷ sorts.SelfWord ∷ sorts.Negate ∷ sorts.Not ∷ sorts.OpenBrace ∷ sorts.OpenObservers ∷ names)) expr_statement) is_name_statement (either named_signature others) others)
@@ -810,14 +823,21 @@ closure_parameter_type = both (token (any (sorts.Colon ∷ []))) (both (optional
 unfoldable pub closure_parameter : Grammar
 closure_parameter = giving (λ v. a_closure_parameter (closure_parameter_of (name_in (first_of v)) (second_of v))) (both a_name closure_parameter_type)
 
+abbrev pub closure_parameters_in : Value → List ClosureParameter
+closure_parameters_in (closure_parameters ps) = ps
+closure_parameters_in v = []
+
+unfoldable pub closure_parameters_behind : Grammar
+closure_parameters_behind = giving (λ v. closure_parameters (list_in closure_parameter_in v)) (many (after_comma closure_parameter))
+
 unfoldable pub first_bracket : Grammar
-first_bracket = both (optional (select (expr free) is_name (optional (both closure_parameter_type (many (after_comma closure_parameter)))) empty)) (token (any (sorts.CloseRound ∷ [])))
+first_bracket = both (optional (select (expr modes.Free) is_name (optional (both closure_parameter_type closure_parameters_behind)) empty)) (token (any (sorts.CloseRound ∷ [])))
 
 -- nothing or parameters are those of a signature, and an expression is one in brackets
 abbrev pub bracket_or_signature : Span → Value → Span → Value
 bracket_or_signature s nothing t = a_signature []
 bracket_or_signature s (pair e nothing) t = expr_of (from_to s t) (forms.Bracketed (expr_in e))
-bracket_or_signature s (pair e (pair p ps)) t = a_signature (closure_parameter_of (name_of_expr (expr_in e)) p ∷ list_in closure_parameter_in ps)
+bracket_or_signature s (pair e (pair p ps)) t = a_signature (closure_parameter_of (name_of_expr (expr_in e)) p ∷ closure_parameters_in ps)
 bracket_or_signature s v t = nothing
 
 abbrev pub is_signature : Value → Bool
@@ -832,21 +852,24 @@ signature_tail = both (optional arrow) (both (token (any (sorts.In ∷ []))) blo
 
 -- how a statement goes on behind a bracket that begins it, and the statements behind it
 unfoldable pub bracket_tail : Grammar
-bracket_tail = both (many (part free)) (both (many (link (sorts.Times ∷ []) (unary free))) (both (many (link (sorts.Plus ∷ sorts.Minus ∷ []) (product free))) (both (optional (link (sorts.Relation ∷ []) (sum free))) (both (many (link (sorts.And ∷ []) (compare free))) (both (many (link (sorts.Or ∷ []) (conjunction free))) (both assigned others))))))
+bracket_tail = both (parts_behind modes.Free) (both (links (sorts.Times ∷ []) (unary modes.Free)) (both (links (sorts.Plus ∷ sorts.Minus ∷ []) (product modes.Free)) (both (relation modes.Free) (both (links (sorts.And ∷ []) (compare modes.Free)) (both (links (sorts.Or ∷ []) (conjunction modes.Free)) (both assigned others))))))
 
 abbrev pub whole_expr : Expr → List Part → List Link → List Link → List Link → List Link → List Link → Expr
-whole_expr e ps times sums relation ands ors = chained (chained (chained (chained (chained (postfixed e ps) times) sums) relation) ands) ors
+whole_expr e ps times sums compared ands ors = chained (chained (chained (chained (chained (postfixed e ps) times) sums) compared) ands) ors
 
 abbrev pub bracket_literal : Value → Value
 bracket_literal (pair (a_signature ps) (pair r (pair i b))) = a_literal (signatures.Typed ps (option_in type_in (second_of r))) (statements_in b)
-bracket_literal (pair (an_expr e) (pair ps (pair times (pair sums (pair relation (pair ands (pair ors (pair a b)))))))) = literal_of (statement_in (assigned_of (whole_expr e (list_in part_in ps) (list_in link_in times) (list_in link_in sums) (one_link relation) (list_in link_in ands) (list_in link_in ors)) a)) (statements_in b)
+bracket_literal (pair (an_expr e) (pair ps (pair times (pair sums (pair compared (pair ands (pair ors (pair a b)))))))) = literal_of (statement_in (assigned_of (whole_expr e (parts_in ps) (links_in times) (links_in sums) (links_in compared) (links_in ands) (links_in ors)) a)) (statements_in b)
 bracket_literal v = nothing
 
 unfoldable pub from_bracket : Grammar
 from_bracket = giving bracket_literal (select first_part is_signature signature_tail bracket_tail)
 
+unfoldable pub literal_inside : Grammar
+literal_inside = either (giving (λ v. literal_of (statement_in (first_of v)) (statements_in (second_of v))) (both (either local keyword_statement) others)) (either from_bracket (either from_other (giving (λ v. a_literal signatures.Absent []) empty)))
+
 unfoldable pub literal : Grammar
-literal = both (either (giving (λ v. literal_of (statement_in (first_of v)) (statements_in (second_of v))) (both (either local keyword_statement) others)) (either from_bracket (either from_other (giving (λ v. a_literal signatures.Absent []) empty)))) (token (any (sorts.CloseBrace ∷ [])))
+literal = both literal_inside (token (any (sorts.CloseBrace ∷ [])))
 
 -- Declarations.
 unfoldable pub accessor_name_in_brackets : Grammar
@@ -934,12 +957,12 @@ variable_in (a_head (heads.Variable h)) v = variable_with h v
 variable_in w v = no_variable
 
 unfoldable pub initialised : Grammar
-initialised = both (token (any (sorts.Assign ∷ []))) (both (expr initial) (optional observed))
+initialised = both (token (any (sorts.Assign ∷ []))) (both (expr modes.Initial) (optional observed))
 
 unfoldable pub property : Grammar
 property = giving (λ v. a_member (member_forms.Property (variable_in (first_of v) (second_of v)))) (select (variable_head (sorts.Var ∷ [])) has_type (either initialised (either (accessed (sorts.OpenBrace ∷ [])) (optional observed))) initialised)
 
--- Behind an initial value that may have ended no statement begins with observers.
+-- Behind an modes.Initial value that may have ended no statement begins with observers.
 abbrev pub plain_ends : List ℕ
 plain_ends = here (sorts.CloseBrace ∷ []) ++ below (sorts.CloseBrace ∷ sorts.Func ∷ sorts.Struct ∷ sorts.Class ∷ sorts.Let ∷ sorts.Var ∷ sorts.If ∷ sorts.While ∷ sorts.Return ∷ sorts.Break ∷ sorts.Continue ∷ sorts.Mutating ∷ sorts.Subscript ∷ sorts.Int ∷ sorts.True ∷ sorts.False ∷ sorts.SelfWord ∷ sorts.Negate ∷ sorts.Not ∷ sorts.OpenRound ∷ sorts.OpenBrace ∷ names)
 
@@ -951,14 +974,14 @@ unfoldable pub value_end : Grammar
 value_end = either (giving first_of (both observed separator)) (giving (λ v. nothing) plain_separator)
 
 unfoldable pub initialised_item : Grammar
-initialised_item = both (token (any (sorts.Assign ∷ []))) (both (expr initial) value_end)
+initialised_item = both (token (any (sorts.Assign ∷ []))) (both (expr modes.Initial) value_end)
 
 abbrev pub global_value : Value → Value
 global_value v = an_item (item_forms.Global (variable_in (first_of v) (second_of v)))
 
 -- a global with what stands between it and the next item
 unfoldable pub global : Grammar
-global = either (giving global_value (both (variable_head (sorts.Let ∷ [])) (both (token (any (sorts.Assign ∷ []))) (both (expr initial) (giving (λ v. nothing) plain_separator))))) (giving global_value (select (variable_head (sorts.Var ∷ [])) has_type (either initialised_item (giving first_of (both (accessed (sorts.OpenBrace ∷ [])) separator))) initialised_item))
+global = either (giving global_value (both (variable_head (sorts.Let ∷ [])) (both (token (any (sorts.Assign ∷ []))) (both (expr modes.Initial) (giving (λ v. nothing) plain_separator))))) (giving global_value (select (variable_head (sorts.Var ∷ [])) has_type (either initialised_item (giving first_of (both (accessed (sorts.OpenBrace ∷ [])) separator))) initialised_item))
 
 abbrev pub function_of : Value → Value → Function
 function_of (a_head (heads.Function h)) b = record { span = from_to h.span (span_of b); mutating = h.mutating; name = h.name; parameters = h.parameters; result = h.result; body = block_in b }

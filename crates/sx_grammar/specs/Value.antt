@@ -38,13 +38,17 @@ pub data Value : Type 0 where
   an_expr : Expr → Value
   exprs : List Expr → Value
   a_part : Part → Value
+  part_list : List Part → Value
   a_link : Link → Value
+  link_list : List Link → Value
+  name_list : List Name → Value
   an_argument : Argument → Value
   arguments : List Argument → Value
   a_signature : List ClosureParameter → Value
   a_literal : Signature → List Statement → Value
   a_closure : Closure → Value
   a_closure_parameter : ClosureParameter → Value
+  closure_parameters : List ClosureParameter → Value
   -- an if without its word, and where it ends
   if_parts : Expr → Block → Else → ℕ → Value
   a_statement : Statement → Value

@@ -85,3 +85,15 @@ pub struct Lexeme {
     pub sort: Sort,
     pub token: Token,
 }
+
+/// What an opening brace is in an expression, outside brackets.
+#[derive(Clone, Copy, Debug, PartialEq, Eq)]
+pub enum Mode {
+    /// It begins a closure.
+    Free,
+    /// It begins the block behind a condition.
+    Condition,
+    /// It begins a closure, but behind an operand observers where it stands before `willSet` or
+    /// `didSet`: the initial value of a property or global may end there.
+    Initial,
+}

@@ -18,4 +18,4 @@ mod laws;
 mod lexemes;
 
 pub use laws::{at_most_one_head, at_most_one_tree};
-pub use lexemes::{Lexeme, Sort};
+pub use lexemes::{Lexeme, Mode, Sort};

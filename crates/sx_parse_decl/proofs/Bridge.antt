@@ -1,5 +1,5 @@
 -- What a level that is left, or none, means to a stop.
-use Rattle.std.proofs.Common.{◌≡◌, ℕ, zero, suc, ◌&&◌, Bool, true, false, refl, sym, ap, ◌∙◌, List, length, Some}
+use Rattle.std.proofs.Common.{◌≡◌, ℕ, zero, suc, ◌&&◌, false, refl, ap, List, length}
 use Rattle.sx_grammar.specs.declared.lexemes.Lexeme.{Lexeme}
 use Rattle.sx_grammar.specs.Grammar.{Out, fault, misfit, is_none, starts, bracket_classes}
 use Rattle.sx_parse_decl.specs.Reading.{blame, Stops}

@@ -1,14 +1,13 @@
 -- What a run over the head of a declaration means.
-use Rattle.std.proofs.Common.{◌≡◌, ℕ, zero, suc, ◌+◌, ◌-◌, ◌≤◌, List, [], ◌∷◌, length, drop, take, Bool, true, false, refl, sym, ap, ◌∙◌, subst, arith, Option, Some, None}
+use Rattle.std.proofs.Common.{◌≡◌, ℕ, zero, suc, ◌+◌, ◌-◌, ◌≤◌, List, [], ◌∷◌, length, drop, take, Bool, true, false, refl, sym, ap, ◌∙◌, subst, arith, Some}
 use Rattle.sx_token.specs.declared.kinds.Token.{Token}
 use Rattle.sx_tree.specs.declared.declarations.Head.{Head}
 use Rattle.sx_grammar.specs.declared.lexemes.Lexeme.{Lexeme}
 use Rattle.sx_grammar.specs.Value.{Value, a_head}
-use Rattle.sx_grammar.specs.Grammar.{Grammar, Out, done, fault, Cause, misfit, missing, run, fine}
-use Rattle.sx_grammar.specs.Rules.{body, tail, head}
-use Rattle.sx_grammar.specs.Answer.{IsRead, IsMisfit, IsTooDeep}
+use Rattle.sx_grammar.specs.Grammar.{Grammar, Out, done, fault, Cause, misfit, missing, run}
+use Rattle.sx_grammar.specs.Rules.{body, head}
 use Rattle.sx_grammar.specs.Lexemes.{lexemes}
-use Rattle.sx_grammar.proofs.Fronts.{Found, found, Ended}
+use Rattle.sx_grammar.proofs.Fronts.{Found, found}
 use Rattle.sx_grammar.proofs.Table.{head_fine}
 use Rattle.sx_grammar.proofs.Verdict.{done_is, misfit_is, too_deep_is}
 use Rattle.sx_grammar.proofs.Suffixes.{Suffix, whole_suffix, front_suffix, suffix_length, suffix_drop}

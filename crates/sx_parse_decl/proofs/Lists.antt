@@ -1,13 +1,13 @@
 -- Lists of items, with one first.
-use Rattle.std.proofs.Common.{◌≡◌, ℕ, List, [], ◌∷◌, ◌++◌, Bool, true, false, not, refl, sym, ap, subst, ◌∙◌, Result}
+use Rattle.std.proofs.Common.{◌≡◌, ℕ, List, [], ◌∷◌, ◌++◌, true, false, refl, sym, ap, subst, ◌∙◌, Result}
 use Rattle.sx_grammar.specs.declared.lexemes.Lexeme.{Lexeme}
 use Rattle.sx_parse_decl.specs.declared.stop.Stop.{Stop}
-use Rattle.sx_grammar.specs.Value.{Value, nothing, leaf, pair}
-use Rattle.sx_grammar.specs.Grammar.{Grammar, empty, both, either, many, giving, starts, first, nullable, Out, done, fault, ◌>>=◌, run, run_with}
-use Rattle.sx_grammar.specs.Rules.{body, list_in, listed_in, first_of, second_of}
+use Rattle.sx_grammar.specs.Value.{Value, pair}
+use Rattle.sx_grammar.specs.Grammar.{Grammar, empty, both, either, many, giving, starts, first, Out, done, fault, ◌>>=◌, run, run_with}
+use Rattle.sx_grammar.specs.Rules.{body, list_in, first_of, second_of}
 use Rattle.sx_parse_decl.specs.Reading.{Gives, Stops}
 use Rattle.sx_grammar.proofs.Equations.{both_is, giving_is, either_left, either_right}
-use Rattle.sx_parse_decl.proofs.Parts.{stops_at, stops_then, first_stops, giving_stops}
+use Rattle.sx_parse_decl.proofs.Parts.{stops_at, first_stops, giving_stops}
 use Rattle.sx_parse_decl.proofs.Turns.{with_turns}
 
 -- a list with an item first, or none: in any grammar of that form

@@ -1,17 +1,17 @@
 -- What a part's run makes of the whole's run.
-use Rattle.std.proofs.Common.{◌≡◌, ℕ, zero, suc, ◌+◌, ◌≤◌, ◌<◌, List, [], ◌∷◌, ◌++◌, length, Bool, true, false, cond, not, refl, sym, ap, ◌∙◌, subst, inl, inr, arith, Option, Some, None, append_assoc}
+use Rattle.std.proofs.Common.{◌≡◌, ℕ, suc, ◌<◌, List, ◌∷◌, length, Bool, true, not, sym, ap, ◌∙◌, subst, Some}
 use Rattle.sx_grammar.specs.declared.lexemes.Lexeme.{Lexeme}
 use Rattle.sx_parse_decl.specs.declared.stop.Stop.{Stop}
 use Rattle.sx_parse_decl.specs.declared.stop.Stop.TheVariants as stops
-use Rattle.sx_grammar.specs.Value.{Value, nothing, leaf, pair}
+use Rattle.sx_grammar.specs.Value.{Value, leaf, pair}
 use Rattle.sx_grammar.specs.Classes.{class_of}
-use Rattle.sx_grammar.specs.Grammar.{Grammar, empty, token, both, either, many, deeper, giving, has, starts, Whole, Out, done, fault, ◌>>=◌, nullable, first, run}
-use Rattle.sx_grammar.specs.Rules.{body, list_in, listed_in, first_of, second_of}
-use Rattle.sx_parse_decl.specs.Reading.{blame, Stops, Gives}
+use Rattle.sx_grammar.specs.Grammar.{Grammar, both, deeper, giving, has, Whole, Out, done, fault, ◌>>=◌, nullable, run}
+use Rattle.sx_grammar.specs.Rules.{body}
+use Rattle.sx_parse_decl.specs.Reading.{blame, Stops}
 use Rattle.sx_grammar.proofs.Bools.{not_true}
-use Rattle.sx_grammar.proofs.Beginnings.{rest_of, Begins, stays, goes, whole_begins}
+use Rattle.sx_grammar.proofs.Beginnings.{stays, goes, whole_begins}
 use Rattle.sx_grammar.proofs.Fronts.{Found, found}
-use Rattle.sx_grammar.proofs.Equations.{both_is, giving_is, either_left, either_right, many_stop, many_goes, deeper_opens}
+use Rattle.sx_grammar.proofs.Equations.{both_is, giving_is, deeper_opens}
 
 blame_then : (o : Out) (f : Value → List Lexeme → Out) (left : ℕ) (deep : Bool) → blame o ≡ Some (left, deep) → blame (o >>= f) ≡ Some (left, deep)
 blame_then (done v r) f left deep h = absurd (cc)

@@ -1,13 +1,12 @@
 -- A loop that reads the turns of many into a list.
-use Rattle.std.proofs.Common.{◌≡◌, ℕ, List, [], ◌∷◌, ◌++◌, Bool, true, false, not, refl, sym, ap, ◌∙◌, append_assoc}
+use Rattle.std.proofs.Common.{◌≡◌, ℕ, List, [], ◌∷◌, ◌++◌, true, false, not, refl, sym, ap, ◌∙◌, append_assoc}
 use Rattle.std.proofs.lemmas.List.{append-nil}
 use Rattle.sx_grammar.specs.declared.lexemes.Lexeme.{Lexeme}
 use Rattle.sx_parse_decl.specs.declared.stop.Stop.{Stop}
-use Rattle.sx_grammar.specs.Value.{Value, nothing, leaf, pair}
-use Rattle.sx_grammar.specs.Classes.{class_of}
+use Rattle.sx_grammar.specs.Value.{Value, pair}
 use Rattle.sx_grammar.specs.Grammar.{Grammar, many, starts, Out, done, fault, ◌>>=◌, nullable, first, run}
-use Rattle.sx_grammar.specs.Rules.{body, list_in, listed_in, first_of, second_of}
-use Rattle.sx_parse_decl.specs.Reading.{blame, Stops, Gives}
+use Rattle.sx_grammar.specs.Rules.{body, list_in}
+use Rattle.sx_parse_decl.specs.Reading.{Stops}
 use Rattle.sx_grammar.proofs.Equations.{many_stop, many_goes}
 use Rattle.sx_parse_decl.proofs.Parts.{stops_at, stops_then}
 

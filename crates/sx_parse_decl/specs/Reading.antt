@@ -1,5 +1,5 @@
 -- What a reader answers.
-use Rattle.std.specs.Prelude.{◌≡◌, ℕ, List, [], ◌∷◌, length, Result, Ok, Err, Option, Some, None, Bool, true, false}
+use Rattle.std.specs.Prelude.{◌≡◌, ℕ, List, length, Result, Ok, Err, Option, Some, None, Bool, true}
 use Rattle.sx_grammar.specs.declared.lexemes.Lexeme.{Lexeme}
 use Rattle.sx_grammar.specs.Value.{Value, nothing, leaf, pair, a_type, parameters}
 use Rattle.sx_tree.specs.declared.declarations.Parameter.{Parameter}

@@ -264,7 +264,8 @@ pub fn opened_here<'a>(
                     deep: true,
                 })
             } else {
-                Ok((lexeme, rest, levels - 1))
+                let fewer = levels - 1;
+                Ok((lexeme, rest, fewer))
             }
         }
     }

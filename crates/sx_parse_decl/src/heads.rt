@@ -36,8 +36,9 @@ pub struct FunctionRest {
     pub result: Option<ResultType>,
 }
 
+/// A result type behind its arrow, if it stands here.
 #[tactic(auto, unfolding(sx_grammar::specs::Grammar::run, sx_grammar::specs::Grammar::run_with, sx_grammar::specs::Rules::arrow))]
-fn result_type(
+pub fn result_type(
     alloc: Global,
     lexemes: &[Lexeme],
     levels: u32,

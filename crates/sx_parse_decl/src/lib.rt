@@ -11,6 +11,8 @@ mod heads;
 mod lexing;
 mod parameter_lists;
 mod stop;
+#[cfg(test)]
+mod tests;
 mod types;
 
 pub use cursor::{
@@ -18,7 +20,10 @@ pub use cursor::{
     starts_with_name,
 };
 pub use declaration::{ParseStop, parse_declaration};
-pub use heads::{function_head, head, mutating_head, subscript_head, type_head, variable_head};
+pub use heads::{
+    FunctionRest, ResultType, function_head, head, mutating_head, result_type, subscript_head,
+    type_head, variable_head,
+};
 pub use lexing::lexemes;
 pub use parameter_lists::{parameters, subscript_parameters};
 pub use stop::Stop;

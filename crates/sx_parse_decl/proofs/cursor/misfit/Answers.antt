@@ -1,4 +1,4 @@
-use Rattle.std.proofs.Common.{◌≡◌, refl}
+use Rattle.std.proofs.Common.{refl}
 use Rattle.sx_parse_decl.proofs.Bridge.{some_level}
 use Rattle.sx_parse_decl.proofs.cursor.misfit.Goals as goal
 

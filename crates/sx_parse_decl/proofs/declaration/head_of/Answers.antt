@@ -1,4 +1,4 @@
-use Rattle.std.proofs.Common.{◌≡◌, ◌≤◌, ◌+◌, length, arith, sym, subst, Bool, true, false, Some}
+use Rattle.std.proofs.Common.{◌≡◌, arith, Some}
 use Rattle.sx_grammar.specs.Value.{a_head}
 use Rattle.sx_grammar.specs.Grammar.{run}
 use Rattle.sx_grammar.specs.Rules.{body, head}

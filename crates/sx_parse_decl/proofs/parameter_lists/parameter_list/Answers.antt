@@ -1,11 +1,11 @@
-use Rattle.std.proofs.Common.{◌≡◌, Ok, List, length, ℕ, ◌+◌, ◌<◌, Bool, true, false, not, [], ◌∷◌, ◌++◌, refl, arith, sym, ap, subst, ◌∙◌}
+use Rattle.std.proofs.Common.{◌≡◌, true, false, refl, arith, sym, ◌∙◌}
 use Rattle.std.proofs.lemmas.Result.{err_from_is_err_and}
 use Rattle.sx_grammar.specs.Value.{a_parameter, parameters}
-use Rattle.sx_grammar.specs.Grammar.{many, both, run, run_with, done, token, starts, first, nullable}
-use Rattle.sx_grammar.specs.Rules.{body, after_comma, parameter, parameter_in, parameter_list, parameter_names}
+use Rattle.sx_grammar.specs.Grammar.{many, both, starts, first}
+use Rattle.sx_grammar.specs.Rules.{after_comma, parameter, parameter_in, parameter_list, parameter_names}
 use Rattle.sx_parse_decl.proofs.Parts.{run_shorter}
-use Rattle.sx_parse_decl.proofs.Turns.{with_turns, turn_goes, turns_end, turn_stops}
-use Rattle.sx_parse_decl.proofs.Lists.{list_begins, list_stops, list_none, full_begins}
+use Rattle.sx_parse_decl.proofs.Turns.{turn_goes, turns_end, turn_stops}
+use Rattle.sx_parse_decl.proofs.Lists.{list_begins, list_stops, list_none}
 use Rattle.sx_parse_decl.proofs.parameter_lists.parameter_list.Goals as goal
 
 pub returns-then-not-starts_with : goal.returns-then-not-starts_with

@@ -1,4 +1,4 @@
-use Rattle.std.proofs.Common.{◌≡◌, ℕ, length}
+use Rattle.std.proofs.Common.{◌≡◌, length}
 use Rattle.sx_grammar.specs.Grammar.{run}
 use Rattle.sx_grammar.specs.Value.{parameters}
 use Rattle.sx_grammar.specs.Rules.{body, after_comma, subscript_parameter, parameter_in, subscript_parameter_list}

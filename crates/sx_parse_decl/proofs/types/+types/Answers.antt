@@ -1,11 +1,11 @@
-use Rattle.std.proofs.Common.{◌≡◌, Ok, List, length, ℕ, ◌+◌, ◌<◌, Bool, true, false, not, [], ◌∷◌, ◌++◌, refl, arith, sym, ap, subst, ◌∙◌}
+use Rattle.std.proofs.Common.{◌≡◌, true, false, refl, arith, sym, ◌∙◌}
 use Rattle.std.proofs.lemmas.Result.{err_from_is_err_and}
 use Rattle.sx_grammar.specs.Value.{a_type_parameter, type_parameters}
-use Rattle.sx_grammar.specs.Grammar.{many, both, run, run_with, done, token, starts, first, nullable}
-use Rattle.sx_grammar.specs.Rules.{body, after_comma, type_parameter, type_parameter_in, type_parameter_list, any_type}
+use Rattle.sx_grammar.specs.Grammar.{many, both, starts, first}
+use Rattle.sx_grammar.specs.Rules.{after_comma, type_parameter, type_parameter_in, type_parameter_list, any_type}
 use Rattle.sx_parse_decl.proofs.Parts.{run_shorter}
-use Rattle.sx_parse_decl.proofs.Turns.{with_turns, turn_goes, turns_end, turn_stops}
-use Rattle.sx_parse_decl.proofs.Lists.{list_begins, list_stops, list_none, full_begins}
+use Rattle.sx_parse_decl.proofs.Turns.{turn_goes, turns_end, turn_stops}
+use Rattle.sx_parse_decl.proofs.Lists.{list_begins, list_stops, list_none}
 use Rattle.sx_parse_decl.proofs.types.+types.Goals as goal
 
 pub type_parameters-returns-then-not-starts_with : goal.type_parameters-returns-then-not-starts_with

@@ -1,4 +1,4 @@
-use Rattle.std.proofs.Common.{◌≡◌, ◌++◌, drop, map}
+use Rattle.std.proofs.Common.{◌≡◌, ◌++◌, drop}
 use Rattle.sx_tree.specs.Nodes.{all_places}
 use Rattle.sx_tree.proofs.nodes.put_items.Given as goal
 
