@@ -1,0 +1,5 @@
+pub mod Followed
+pub mod Meetings
+pub mod FirstArea
+pub mod Kept
+pub mod Straightened
