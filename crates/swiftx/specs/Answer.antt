@@ -28,7 +28,7 @@ pub record Completed (due : Due) (out out' err err' : Told) (bench : Bench) (out
   pub err_grew : Grew err err' due.err
   pub bench_holds : OnBench bench due due.steps
 
--- a put failed: each output has a front of what was due, and the machine stands right after the step that wrote
+-- a put failed: each output has a front of what was due, and the machine stands after some number of its steps
 pub record Broken (due : Due) (out out' err err' : Told) (bench : Bench) : Type 0 where
   pub outputs : CutShort out out' err err' due.out due.err
   pub taken : ℕ
