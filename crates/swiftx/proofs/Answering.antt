@@ -1,5 +1,5 @@
 -- From what the parts of a call do to what the whole answers.
-use Rattle.std.proofs.Common.{◌≡◌, ◌⊎◌, inl, inr, ℕ, List, [], ◌∷◌, ◌++◌, Option, Some, None, sym, refl, ap, subst, append-nil}
+use Rattle.std.proofs.Common.{◌≡◌, ◌⊎◌, inl, inr, ℕ, ◌<◌, List, [], ◌∷◌, ◌++◌, length, Option, Some, None, sym, refl, ap, subst, append-nil}
 use Rattle.std.specs.Prelude.{option_map}
 use Rattle.sx_io.specs.Outside.{Files, Call, reading, Rose}
 use Rattle.sx_runs.specs.Ending.{Ending as End}
@@ -13,7 +13,7 @@ use Rattle.swiftx.specs.Outside.{Outside, Asked}
 use Rattle.swiftx.specs.Due.{Due, line_due, run_due, Holds, ends_as, ended_with, executed, most_of, TextDue, refused, ran, ElfDue, unloadable, loadable, ReadDue, IsDue, no_command, unread, read}
 use Rattle.swiftx.specs.Answer.{Answered, IsDone, StoreCount}
 use Rattle.swiftx.specs.Parts.{Said, Settled, RanOut, PrintsSettled, TextSettled, CommandSettled}
-use Rattle.swiftx.proofs.Settle.{said_settled}
+use Rattle.swiftx.proofs.Settle.{has_bytes, said_settled}
 use Rattle.swiftx.specs.declared.outcome.Outcome.{Outcome}
 use Rattle.swiftx.specs.declared.outcome.Outcome.TheVariants.{Exited, Usage, Refused, ElfRefused, Budget, MachineFault, StoreFault, SinkFault, NoMemory}
 use Rattle.swiftx.specs.declared.outcome.Fault.TheVariants.{Unbuilt}
@@ -118,19 +118,32 @@ pub asked_none : (o : Option (List Call)) → o ≡ option_map (λ (before : Lis
 asked_none None = refl
 asked_none (Some calls) = ap Some (sym (append-nil calls))
 
+-- the lines are not empty
+usage_has_bytes : 0 < length usage_line
+unfolding usage_line
+usage_has_bytes = has_bytes _ _ usage_line refl
+
+store_has_bytes : 0 < length store_line
+unfolding store_line
+store_has_bytes = has_bytes _ _ store_line refl
+
+unbuilt_has_bytes : 0 < length unbuilt_line
+unfolding unbuilt_line
+unbuilt_has_bytes = has_bytes _ _ unbuilt_line refl
+
 -- the words are no command
 pub usage_answers : (words : List (List ℕ)) (files : Option Files) (asked : Option (List Call)) (faults : ℕ) (out err err' : Told) (line : List ℕ) (result : Outcome) (bench : Bench) → line ≡ usage_line → option_map (λ b. b.bytes.items) bench.built ≡ None → bench.machine ≡ None → ((command : Command) → IsCommand words command → ⊥) → Said Usage result line err err'
     → Answered words (record { files = files; asked = asked; store_faults = faults; out = out; err = err }) (record { files = files; asked = asked; store_faults = faults; out = out; err = err' }) bench result
 usage_answers words files asked faults out err err' line result bench e b m none said =
     settled_answers words (record { files = files; asked = asked; store_faults = faults; out = out; err = err }) (record { files = files; asked = asked; store_faults = faults; out = out; err = err' }) bench (line_due Usage usage_line) [] result
-    (no_command none) (asked_none asked) refl (said_settled Usage result usage_line out err err' bench b m (subst (λ l. Said Usage result l err err') e said))
+    (no_command none) (asked_none asked) refl (said_settled Usage result usage_line out err err' bench usage_has_bytes b m (subst (λ l. Said Usage result l err err') e said))
 
 -- the read failed
 pub unread_answers : (words : List (List ℕ)) (files files' : Option Files) (asked asked' : Option (List Call)) (faults faults' : ℕ) (out err err' : Told) (line : List ℕ) (result : Outcome) (bench : Bench) (command : Command) (name : List ℕ) → name ≡ file_name command → line ≡ store_line → option_map (λ b. b.bytes.items) bench.built ≡ None → bench.machine ≡ None → IsCommand words command → asked' ≡ option_map (λ (before : List Call). before ++ reading name ∷ []) asked → Rose faults faults' → Said StoreFault result line err err'
     → Answered words (record { files = files; asked = asked; store_faults = faults; out = out; err = err }) (record { files = files'; asked = asked'; store_faults = faults'; out = out; err = err' }) bench result
 unread_answers words files files' asked asked' faults faults' out err err' line result bench command name n e b m is added rose said =
     settled_answers words (record { files = files; asked = asked; store_faults = faults; out = out; err = err }) (record { files = files'; asked = asked'; store_faults = faults'; out = out; err = err' }) bench (line_due StoreFault store_line) (reading (file_name command) ∷ []) result
-    (unread command is) (subst (λ x. asked' ≡ option_map (λ (before : List Call). before ++ reading x ∷ []) asked) n added) rose (said_settled StoreFault result store_line out err err' bench b m (subst (λ l. Said StoreFault result l err err') e said))
+    (unread command is) (subst (λ x. asked' ≡ option_map (λ (before : List Call). before ++ reading x ∷ []) asked) n added) rose (said_settled StoreFault result store_line out err err' bench store_has_bytes b m (subst (λ l. Said StoreFault result l err err') e said))
 
 -- the file was read
 pub read_answers : (words : List (List ℕ)) (old new : Outside) (bench : Bench) (result : Outcome) (command : Command) (name bytes : List ℕ) (most : ℕ) → name ≡ file_name command → most ≡ most_of command → IsCommand words command → Holds old.files name most bytes → Asked old new (reading name ∷ []) → new.store_faults ≡ old.store_faults → RanOut old.out new.out old.err new.err result ⊎ CommandSettled command bytes old.out new.out old.err new.err bench result → Answered words old new bench result
@@ -145,7 +158,7 @@ read_answers words old new bench result command name bytes most n k is holds ask
 -- the parts of a text's answer
 pub refused_settled : (text : List ℕ) (steps : ℕ) (out err err' : Told) (bench : Bench) (line : List ℕ) (result : Outcome) → line ≡ unbuilt_line → option_map (λ b. b.bytes.items) bench.built ≡ None → bench.machine ≡ None → PrintsNothing text → Said (Refused Unbuilt) result line err err' → TextSettled text steps out out err err' bench result
 refused_settled text steps out err err' bench line result e b m none said =
-    record { due = line_due (Refused Unbuilt) unbuilt_line; is = refused none; settled = said_settled (Refused Unbuilt) result unbuilt_line out err err' bench b m (subst (λ l. Said (Refused Unbuilt) result l err err') e said) }
+    record { due = line_due (Refused Unbuilt) unbuilt_line; is = refused none; settled = said_settled (Refused Unbuilt) result unbuilt_line out err err' bench unbuilt_has_bytes b m (subst (λ l. Said (Refused Unbuilt) result l err err') e said) }
 
 pub prints_settled : (text : List ℕ) (literals : List (List ℕ)) (steps : ℕ) (out out' err err' : Told) (bench : Bench) (result : Outcome) → PrintsText text literals → RanOut out out' err err' result ⊎ PrintsSettled literals steps out out' err err' bench result → RanOut out out' err err' result ⊎ TextSettled text steps out out' err err' bench result
 prints_settled text literals steps out out' err err' bench result p (inl x) = inl x

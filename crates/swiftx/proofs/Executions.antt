@@ -1,27 +1,23 @@
 -- From what a run of a file's own machine does to what was due.
-use Rattle.std.proofs.Common.{◌≡◌, ◌⊎◌, inl, inr, ℕ, suc, ◌+◌, ◌≤◌, List, [], ◌++◌, take, Option, Some, None, sym, refl, ap, ◌∙◌, subst, arith, append-nil}
+use Rattle.std.proofs.Common.{◌≡◌, ◌⊎◌, inl, inr, ℕ, ◌<◌, List, [], ◌++◌, length, Option, Some, None, sym, refl, ap, ◌∙◌, subst, append-nil}
 use Rattle.std.specs.Prelude.{option_map}
 use Rattle.sx_elf.specs.Tests.{first_fault, IsRefusal}
 use Rattle.sx_elf.specs.declared.elf_stop.ElfStop.{ElfStop}
 use Rattle.sx_elf.specs.declared.elf_stop.ElfStop.TheVariants as stops
-use Rattle.sx_runs.specs.Performs.{IsPrefix}
-use Rattle.sx_runs.proofs.Steps.{prefix_refl, prefix_trans}
 use Rattle.sx_rv_isa.specs.declared.faults.MachineKind.{MachineKind}
 use Rattle.sx_rv_machine.specs.State.{State}
-use Rattle.sx_rv_machine.specs.Run.{Running, next, emitted}
-use Rattle.sx_rv_machine.specs.Put.{Told, Grew, RanThrough, Stopped, end_of}
+use Rattle.sx_rv_machine.specs.Run.{Running}
+use Rattle.sx_rv_machine.specs.Put.{Told, Grew, BrokeOff, RanThrough, Stopped, end_of}
 use Rattle.sx_rv_machine.specs.declared.machine.Ending.{Ending}
 use Rattle.sx_rv_machine.specs.declared.machine.Ending.TheVariants.{Exits, Faults}
 use Rattle.sx_rv_machine.specs.declared.runs.RunEnd.TheVariants as ends
 use Rattle.sx_rv_machine.proofs.Puts.{grew_none, grew_then, broke_then}
-use Rattle.sx_rv_machine.proofs.Steps.{after_last, outputs_grow}
-use Rattle.swiftx.specs.Answer.{Completed}
+use Rattle.swiftx.specs.Answer.{Completed, at_write, at_line}
 use Rattle.swiftx.specs.Due.{unloadable, loadable, line_due, exec_due, executed, ended_with, ending_line}
 use Rattle.swiftx.specs.Lines.{elf_line, fault_line}
-use Rattle.swiftx.specs.Outside.{CutShort}
 use Rattle.swiftx.specs.Parts.{Said, Settled, RanOut, StopSaid, MachineSettled, ExecSettled}
 use Rattle.swiftx.specs.Target.{start}
-use Rattle.swiftx.proofs.Settle.{same_run, front_is, prefix_take, said_settled}
+use Rattle.swiftx.proofs.Settle.{same_run, has_bytes, said_settled}
 use Rattle.swiftx.specs.declared.outcome.Outcome.{Outcome}
 use Rattle.swiftx.specs.declared.outcome.Outcome.TheVariants.{Exited, Budget, MachineFault, ElfRefused, SinkFault, NoMemory}
 use Rattle.swiftx.specs.declared.bench.Bench.{Bench}
@@ -42,8 +38,10 @@ faults None k at e = absurd (cc)
 faults (Some (Exits s)) k at e = absurd (cc)
 faults (Some (Faults kind pc)) k at e = cc
 
-prefix_more : (p a b : List ℕ) → IsPrefix p a → IsPrefix p (a ++ b)
-prefix_more p a b h = prefix_trans p a (a ++ b) h (record { rest = b; is = refl })
+-- the line of a fault is not empty
+fault_has_line : (k : MachineKind) (at : ℕ) → 0 < length (fault_line k at)
+unfolding fault_line
+fault_has_line k at = has_bytes _ _ (fault_line k at) refl
 
 module _ (file : List ℕ) (steps : ℕ) (out out' err : Told) (bench : Bench) where
   abbrev last : Running
@@ -87,68 +85,22 @@ module _ (file : List ℕ) (steps : ℕ) (out out' err : Told) (bench : Bench) w
       let r' = subst (λ x. RanThrough steps x m out out' err err' (ends.Faulted k at)) e r in
       let told = broke_then err err' err'' last.err line r'.err_grew cut.1 in
       let own : last.state.ending ≡ Some (Faults k at) = ap (λ (x : State). x.ending) (sym r'.state) ∙ faults m.ending k at r'.answer in
-      let all : last.err ++ line ≡ last.err ++ ending_line last.state.ending = ap (λ l. last.err ++ l) is ∙ ap (λ x. last.err ++ ending_line x) (sym own) in
+      let due : line ≡ ending_line last.state.ending = is ∙ ap ending_line (sym own) in
       inr (
         cut.0,
-        record {
-          outputs = record {
-            out_front = front_is out out' last.out last.out (prefix_refl last.out) r'.out_grew.told;
-            err_front = front_is err err'' (last.err ++ take told.taken line) (last.err ++ ending_line last.state.ending) (subst (λ x. IsPrefix (last.err ++ take told.taken line) x) all (prefix_take told.taken last.err line)) told.told;
-            rose = inr told.count;
-          };
-          taken = steps;
-          within = omega arith;
+        at_line (record {
+          has_line = subst (λ l. 0 < length l) (sym is ∙ due) (fault_has_line k at);
+          out_grew = r'.out_grew;
+          err_broke = subst (λ l. BrokeOff err err'' last.err l) due told;
           bench_holds = record { built = ap (option_map (λ b. b.bytes.items)) run.0; machine = run.1 ∙ ap Some (r'.state ∙ ap (λ (x : Running). x.state) (sym (same_run file steps))) };
-        },
+        }),
       )
-
-  after_suc : (k : ℕ) → executed file (suc k) ≡ next (executed file k)
-  after_suc k = let e : suc k ≡ k + 1 = omega arith in ap (λ n. executed file n) e ∙ after_last (start file) k
-
-  -- what the machine has written by a step, and in part by the next
-  cut_out : (k taken : ℕ) → suc k ≤ steps → IsPrefix ((executed file k).out ++ take taken (emitted (executed file k).state 1)) last.out
-  cut_out k taken l =
-      let r = executed file k in
-      prefix_trans (r.out ++ take taken (emitted r.state 1)) (r.out ++ emitted r.state 1) last.out
-      (prefix_take taken r.out (emitted r.state 1))
-      (subst (λ x. IsPrefix x last.out) (ap (λ (x : Running). x.out) (after_suc k)) (outputs_grow (start file) (suc k) steps l).0)
-
-  cut_err : (k taken : ℕ) → suc k ≤ steps → IsPrefix ((executed file k).err ++ take taken (emitted (executed file k).state 2)) last.err
-  cut_err k taken l =
-      let r = executed file k in
-      prefix_trans (r.err ++ take taken (emitted r.state 2)) (r.err ++ emitted r.state 2) last.err
-      (prefix_take taken r.err (emitted r.state 2))
-      (subst (λ x. IsPrefix x last.err) (ap (λ (x : Running). x.err) (after_suc k)) (outputs_grow (start file) (suc k) steps l).1)
 
   -- a put of the machine failed
   pub machine_cut : (err' : Told) (m0 m : State) (fd : ℕ) → Stopped steps m0 m out out' err err' fd → HasRun m → m0 ≡ start file → Settled (exec_due file steps) out out' err err' bench SinkFault
-  machine_cut err' m0 m fd s0 run e =
-      let s = subst (λ x. Stopped steps x m out out' err err' fd) e s0 in
-      inr (
-        refl,
-        record {
-          outputs = by s s.output;
-          taken = suc s.before;
-          within = s.within;
-          bench_holds = record { built = ap (option_map (λ b. b.bytes.items)) run.0; machine = run.1 ∙ ap Some (s.state ∙ ap (λ (x : Running). x.state) (sym (same_run file (suc s.before)))) };
-        },
-      )
-    where
-      by : Stopped steps (start file) m out out' err err' fd → (fd ≡ 1) ⊎ (fd ≡ 2) → CutShort out out' err err' last.out (last.err ++ ending_line last.state.ending)
-      by s (inl one) =
-          let b = s.out_broke one in let g = s.err_whole one in
-          record {
-            out_front = front_is out out' _ _ (cut_out s.before b.taken s.within) b.told;
-            err_front = front_is err err' _ _ (prefix_more _ last.err (ending_line last.state.ending) (outputs_grow (start file) s.before steps (omega (arith, s.within))).1) g.told;
-            rose = inl b.count;
-          }
-      by s (inr two) =
-          let g = s.out_whole two in let b = s.err_broke two in
-          record {
-            out_front = front_is out out' _ _ (outputs_grow (start file) s.before steps (omega (arith, s.within))).0 g.told;
-            err_front = front_is err err' _ _ (prefix_more _ last.err (ending_line last.state.ending) (cut_err s.before b.taken s.within)) b.told;
-            rose = inr b.count;
-          }
+  machine_cut err' m0 m fd s run e =
+      let stopped = subst (λ x. Stopped steps x m out out' err err' fd) e s in
+      inr (refl, at_write (record { file = file; machine = m; fd = fd; ran = refl; stopped = stopped; built = ap (option_map (λ b. b.bytes.items)) run.0; holds = run.1 }))
 
 -- the answers of a file that was read
 pub ran_settled : (file : List ℕ) (steps : ℕ) (out out' err err' : Told) (bench : Bench) (machine : State) (result : Outcome) → first_fault file ≡ None → machine ≡ start file → MachineSettled machine steps out out' err err' bench result → RanOut out out' err err' result ⊎ ExecSettled file steps out out' err err' bench result
@@ -170,11 +122,29 @@ is_refusal fault (stops.Overlapping one other) line is h = h
 is_refusal fault (stops.TooLarge size) line is h = h
 is_refusal fault stops.NoMemory line is h = absurd (cc)
 
+some_is : (x y : List ℕ) → Some x ≡ Some y → x ≡ y
+some_is x y e = cc
+
+-- the line of a refusal is not empty
+refusal_has_line : (stop : ElfStop) (line : List ℕ) → elf_line stop ≡ Some line → 0 < length line
+unfolding elf_line
+refusal_has_line (stops.Short end) line is = has_bytes _ _ line (some_is _ line is)
+refusal_has_line stops.BadMagic line is = has_bytes _ _ line (some_is _ line is)
+refusal_has_line stops.BadClass line is = has_bytes _ _ line (some_is _ line is)
+refusal_has_line stops.BadKind line is = has_bytes _ _ line (some_is _ line is)
+refusal_has_line stops.BadMachine line is = has_bytes _ _ line (some_is _ line is)
+refusal_has_line stops.BadTable line is = has_bytes _ _ line (some_is _ line is)
+refusal_has_line (stops.Dynamic header) line is = has_bytes _ _ line (some_is _ line is)
+refusal_has_line (stops.BadSegment header) line is = has_bytes _ _ line (some_is _ line is)
+refusal_has_line (stops.Overlapping one other) line is = has_bytes _ _ line (some_is _ line is)
+refusal_has_line (stops.TooLarge size) line is = has_bytes _ _ line (some_is _ line is)
+refusal_has_line stops.NoMemory line is = absurd (cc)
+
 pub stop_settled : (file : List ℕ) (steps : ℕ) (out err err' : Told) (bench : Bench) (stop : ElfStop) (result : Outcome) → bench.built ≡ None → bench.machine ≡ None → IsRefusal (first_fault file) stop → ((result ≡ NoMemory) × Grew err err' []) ⊎ StopSaid stop result err err' → RanOut out out err err' result ⊎ ExecSettled file steps out out err err' bench result
 stop_settled file steps out err err' bench stop result b m h (inl none) = inl (record { answers = none.0; out_same = grew_none out; err_same = none.1 })
 stop_settled file steps out err err' bench stop result b m h (inr s) =
     inr (record {
       due = line_due (ElfRefused stop) s.line;
       is = unloadable stop s.line (is_refusal (first_fault file) stop s.line s.is h) s.is;
-      settled = said_settled (ElfRefused stop) result s.line out err err' bench (ap (option_map (λ b. b.bytes.items)) b) m s.said;
+      settled = said_settled (ElfRefused stop) result s.line out err err' bench (refusal_has_line stop s.line s.is) (ap (option_map (λ b. b.bytes.items)) b) m s.said;
     })

@@ -1,13 +1,13 @@
 -- What each outcome of a call says.
-use Rattle.std.specs.Prelude.{◌≡◌, ◌⊎◌, ℕ, ◌≤◌, List, [], ◌∷◌, option_map}
+use Rattle.std.specs.Prelude.{◌≡◌, ◌⊎◌, ℕ, ◌<◌, List, [], ◌∷◌, ◌++◌, length, Some, option_map}
 use Rattle.sx_io.specs.Outside.{Call, reading, Rose}
 use Rattle.sx_runs.specs.Machine.{after}
-use Rattle.sx_rv_machine.specs.Put.{Told, Grew}
+use Rattle.sx_rv_machine.specs.Put.{Told, Grew, BrokeOff, Stopped}
 use Rattle.sx_rv_machine.specs.State.{State}
 use Rattle.swiftx.specs.Commands.{Command, IsCommand, file_name}
 use Rattle.swiftx.specs.Due.{Due, IsDue}
-use Rattle.swiftx.specs.Outside.{Outside, Asked, CutShort}
-use Rattle.swiftx.specs.Target.{target}
+use Rattle.swiftx.specs.Outside.{Outside, Asked}
+use Rattle.swiftx.specs.Target.{start, target}
 use Rattle.swiftx.specs.declared.outcome.Outcome.{Outcome}
 use Rattle.swiftx.specs.declared.outcome.Outcome.TheVariants.{Exited, Usage, Refused, ElfRefused, Budget, MachineFault, StoreFault, SinkFault, NoMemory}
 use Rattle.swiftx.specs.declared.bench.Bench.{Bench}
@@ -16,24 +16,43 @@ use Rattle.swiftx.specs.declared.bench.Bench.{Bench}
 abbrev pub stands : List ℕ → ℕ → State
 stands file steps = (after (target file) steps).state
 
--- the bench has the file that was built, and the machine that ran as it stands after so many steps
-pub record OnBench (bench : Bench) (due : Due) (taken : ℕ) : Type 0 where
+-- the bench has the file that was built, and the machine that ran as it stands after all its steps
+pub record OnBench (bench : Bench) (due : Due) : Type 0 where
   pub built : option_map (λ b. b.bytes.items) bench.built ≡ due.built
-  pub machine : bench.machine ≡ option_map (λ file. stands file taken) due.ran
+  pub machine : bench.machine ≡ option_map (λ file. stands file due.steps) due.ran
 
 -- no put failed: the outcome and the outputs are those that are due, and the machine has taken all its steps
 pub record Completed (due : Due) (out out' err err' : Told) (bench : Bench) (outcome : Outcome) : Type 0 where
   pub answers : outcome ≡ due.outcome
   pub out_grew : Grew out out' due.out
-  pub err_grew : Grew err err' due.err
-  pub bench_holds : OnBench bench due due.steps
+  pub err_grew : Grew err err' (due.err ++ due.line)
+  pub bench_holds : OnBench bench due
 
--- a put failed: each output has a front of what was due, and the machine stands after some number of its steps
-pub record Broken (due : Due) (out out' err err' : Told) (bench : Bench) : Type 0 where
-  pub outputs : CutShort out out' err err' due.out due.err
-  pub taken : ℕ
-  pub within : taken ≤ due.steps
-  pub bench_holds : OnBench bench due taken
+-- a write of the machine failed: it stands right after the step that wrote, each output has what was written before, and
+-- the one that failed a front of that write besides
+pub record CutAtWrite (due : Due) (out out' err err' : Told) (bench : Bench) : Type 0 where
+  pub file : List ℕ
+  pub machine : State
+  pub fd : ℕ
+  pub ran : due.ran ≡ Some file
+  pub stopped : Stopped due.steps (start file) machine out out' err err' fd
+  pub built : option_map (λ b. b.bytes.items) bench.built ≡ due.built
+  pub holds : bench.machine ≡ Some machine
+
+-- the put of the last line failed: the outputs are whole up to that line, of which the second has a front, and the machine
+-- has taken all its steps
+pub record CutAtLine (due : Due) (out out' err err' : Told) (bench : Bench) : Type 0 where
+  pub has_line : 0 < length due.line
+  pub out_grew : Grew out out' due.out
+  pub err_broke : BrokeOff err err' due.err due.line
+  pub bench_holds : OnBench bench due
+
+-- the first put that failed: nothing was put after it
+pub data Broken (due : Due) (out out' err err' : Told) (bench : Bench) : Type 0 where
+  -- a write of the machine
+  at_write : CutAtWrite due out out' err err' bench → Broken due out out' err err' bench
+  -- the line that tells of the outcome
+  at_line : CutAtLine due out out' err err' bench → Broken due out out' err err' bench
 
 -- the store's count rose exactly where its fault is due
 abbrev pub StoreCount : Outcome → ℕ → ℕ → Type 0

@@ -1,5 +1,5 @@
 -- What a call is to answer and to write, where no put fails.
-use Rattle.std.specs.Prelude.{◌≡◌, ℕ, List, [], ◌∷◌, ◌++◌, take, Option, Some, None, IfSome, option_map}
+use Rattle.std.specs.Prelude.{◌≡◌, ℕ, List, [], ◌∷◌, take, Option, Some, None, IfSome, option_map}
 use Rattle.std.specs.FinMap.{get}
 use Rattle.sx_io.specs.Outside.{Files, Call, reading}
 use Rattle.sx_runs.specs.Machine.{after, shown}
@@ -19,23 +19,25 @@ use Rattle.swiftx.specs.declared.outcome.Outcome.{Outcome}
 use Rattle.swiftx.specs.declared.outcome.Outcome.TheVariants.{Exited, Usage, Refused, ElfRefused, Budget, MachineFault, StoreFault, SinkFault, NoMemory}
 use Rattle.swiftx.specs.declared.outcome.Fault.TheVariants.{Unbuilt}
 
--- What is due: the outcome, the bytes for the two outputs, and what the bench is to hold: the
--- file that was built, the file whose machine ran, and its limit of steps.
+-- What is due: the outcome; the bytes that the machine itself writes to the two outputs; the line that tells of the
+-- outcome, put behind them to the second output; and what the bench is to hold: the file that was built, the file whose
+-- machine ran, and its limit of steps.
 pub record Due : Type 0 where
   pub outcome : Outcome
   pub out : List ℕ
   pub err : List ℕ
+  pub line : List ℕ
   pub built : Option (List ℕ)
   pub ran : Option (List ℕ)
   pub steps : ℕ
 
 -- a line on the second output, and nothing else
 abbrev pub line_due : Outcome → List ℕ → Due
-line_due outcome line = record { outcome = outcome; out = []; err = line; built = None; ran = None; steps = 0 }
+line_due outcome line = record { outcome = outcome; out = []; err = []; line = line; built = None; ran = None; steps = 0 }
 
--- the machine of a built file, after all the steps of its limit
+-- the machine of a built file, after all the steps of its limit; no line tells of its end
 abbrev pub run_due : Outcome → List ℕ → ℕ → Due
-run_due outcome file steps = record { outcome = outcome; out = (shown (target file) steps).out; err = (shown (target file) steps).err; built = Some file; ran = Some file; steps = steps }
+run_due outcome file steps = record { outcome = outcome; out = (shown (target file) steps).out; err = (shown (target file) steps).err; line = []; built = Some file; ran = Some file; steps = steps }
 
 -- the machine of a file after so many steps
 abbrev pub executed : List ℕ → ℕ → Running
@@ -53,10 +55,9 @@ ending_line None = []
 ending_line (Some (Exits status)) = []
 ending_line (Some (Faults kind pc)) = fault_line kind pc
 
--- the machine of a file that was not built here, after all the steps of its limit: the line of a fault follows what the
--- machine has written itself
+-- the machine of a file that was not built here, after all the steps of its limit; a line tells of a fault
 abbrev pub exec_due : List ℕ → ℕ → Due
-exec_due file steps = record { outcome = ended_with (executed file steps).state.ending; out = (executed file steps).out; err = (executed file steps).err ++ ending_line (executed file steps).state.ending; built = None; ran = Some file; steps = steps }
+exec_due file steps = record { outcome = ended_with (executed file steps).state.ending; out = (executed file steps).out; err = (executed file steps).err; line = ending_line (executed file steps).state.ending; built = None; ran = Some file; steps = steps }
 
 -- the store, where it tells its files, has this text under the name, or at least so many bytes of it
 abbrev pub Holds : Option Files → List ℕ → ℕ → List ℕ → Type 0

@@ -236,6 +236,36 @@ fn exits_with_seven(
     offset: u64,
     size: u64,
 ) -> Result<Vec<u8>, AllocError> {
+    let code = [0x0070_0513_u32, 0x05D0_0893, 0x0000_0073];
+    executable(alloc, headers, kind, flags, offset, [12, size], &code)
+}
+
+/// An executable that writes its second instruction to output 1 and then to output 2, and runs into what lies behind its
+/// code.
+fn writes_to_both(alloc: Global) -> Result<Vec<u8>, AllocError> {
+    let code = [
+        0x0010_0513_u32,
+        0x0000_0597,
+        0x0040_0613,
+        0x0400_0893,
+        0x0000_0073,
+        0x0020_0513,
+        0x0000_0073,
+    ];
+    executable(alloc, 1, 1, 5, 120, [28, 28], &code)
+}
+
+/// An executable with one segment that has this code; its sizes in the file and in memory are given.
+fn executable(
+    alloc: Global,
+    headers: u16,
+    kind: u32,
+    flags: u32,
+    offset: u64,
+    sizes: [u64; 2],
+    code: &[u32],
+) -> Result<Vec<u8>, AllocError> {
+    let [in_file, in_memory] = sizes;
     let mut file = Vec::new(alloc);
     file.extend_from_slice(b"\x7fELF\x02\x01\x01\0\0\0\0\0\0\0\0\0")?;
     file.extend_from_slice(&[2, 0, 243, 0, 1, 0, 0, 0])?;
@@ -247,10 +277,10 @@ fn exits_with_seven(
     file.extend_from_slice(&[0; 6])?;
     file.extend_from_slice(&kind.to_le_bytes())?;
     file.extend_from_slice(&flags.to_le_bytes())?;
-    for number in [offset, 0x10078, 0x10078, 12, size, 0x1000] {
+    for number in [offset, 0x10078, 0x10078, in_file, in_memory, 0x1000] {
         file.extend_from_slice(&number.to_le_bytes())?;
     }
-    for word in [0x0070_0513_u32, 0x05D0_0893, 0x0000_0073] {
+    for word in code {
         file.extend_from_slice(&word.to_le_bytes())?;
     }
     Ok(file)
@@ -298,6 +328,40 @@ fn executables_run(rt: HostRuntime) -> Result<(), Fail> {
         None => panic!(rt; "no machine"),
     }
     Ok(())
+}
+
+/// An executable's output fails: how many bytes the two outputs have then, their counts, and where the machine stands.
+fn breaks(
+    rt: &impl Abort,
+    alloc: Global,
+    failing: [Option<u64>; 3],
+    taken: [usize; 2],
+    faults: [u64; 2],
+    place: u64,
+) -> Result<(), Fail> {
+    let file = writes_to_both(alloc)?;
+    let mut desk = Desk::with(alloc, "x.elf", &file, failing)?;
+    assert_eq!(rt; desk.call(alloc, "exec x.elf")?, Outcome::SinkFault);
+    assert_eq!(rt; desk.out.bytes_now().len(), taken[0]);
+    assert_eq!(rt; desk.err.bytes_now().len(), taken[1]);
+    assert_eq!(rt; desk.out.fault_count(), faults[0]);
+    assert_eq!(rt; desk.err.fault_count(), faults[1]);
+    match &desk.bench.machine {
+        Some(machine) => assert_eq!(rt; pc(machine), place),
+        None => panic!(rt; "no machine"),
+    }
+    Ok(())
+}
+
+#[test]
+fn a_failed_write_ends_an_executable(rt: HostRuntime) -> Result<(), Fail> {
+    let alloc = rt.alloc();
+    let out_fails = [None, Some(1), None];
+    breaks(&rt, alloc, out_fails, [0, 0], [1, 0], 0x1_008c)?;
+    let err_fails = [None, None, Some(1)];
+    breaks(&rt, alloc, err_fails, [4, 0], [0, 1], 0x1_0094)?;
+    let line_fails = [None, None, Some(2)];
+    breaks(&rt, alloc, line_fails, [4, 4], [0, 1], 0x1_0094)
 }
 
 #[test]
