@@ -1,5 +1,5 @@
 -- What a run has done after some steps, one put after another.
-use Rattle.std.proofs.Common.{◌≡◌, ℕ, ◌+◌, ◌<◌, List, [], ◌++◌, take, Option, Some, None, refl, sym, ap, ◌∙◌, subst, append-nil, append_assoc, add-one, arith}
+use Rattle.std.proofs.Common.{◌≡◌, ℕ, ◌+◌, ◌<◌, List, [], ◌++◌, take, length, Option, Some, None, refl, sym, ap, ◌∙◌, subst, append-nil, append_assoc, add-one, arith}
 use Rattle.std.specs.Prelude.{option_map}
 use Rattle.sx_io.specs.Outside.{Rose}
 use Rattle.sx_runs.specs.Machine.{after}
@@ -122,6 +122,8 @@ stopped steps n s m m' v fd o o' o'' e e' e'' lt r to is g =
       within = lt;
       state = to ∙ ap (λ (x : State). (step_of x).state) r.state ∙ ap (λ (x : Running). x.state) (sym (after_last s n)) ∙ ap (λ k. (after (machine_from s) k).state) (add-one n);
       output = g.output;
+      out_wrote = λ h. subst (λ b. 0 < length b) (wrote 1) (g.out_wrote h);
+      err_wrote = λ h. subst (λ b. 0 < length b) (wrote 2) (g.err_wrote h);
       out_broke = λ h. broke_then o o' o'' R.out (emitted R.state 1) r.out_grew (subst (λ b. BrokeOff o' o'' [] b) (wrote 1) (g.out_broke h));
       out_whole = λ h. whole_out (g.out_whole h);
       err_broke = λ h. broke_then e e' e'' R.err (emitted R.state 2) r.err_grew (subst (λ b. BrokeOff e' e'' [] b) (wrote 2) (g.err_broke h));

@@ -1,5 +1,5 @@
 -- What a run answers, and what the sinks have taken.
-use Rattle.std.specs.Prelude.{◌≡◌, ◌⊎◌, ℕ, suc, ◌<◌, List, [], ◌++◌, take, Option, Some, None, option_map, Result, Ok, Err}
+use Rattle.std.specs.Prelude.{◌≡◌, ◌⊎◌, ℕ, suc, ◌<◌, List, [], ◌++◌, take, length, Option, Some, None, option_map, Result, Ok, Err}
 use Rattle.sx_io.specs.Outside.{Rose}
 use Rattle.sx_io.specs.declared.sink.SinkStop.{SinkStop}
 use Rattle.sx_runs.specs.Machine.{after}
@@ -39,13 +39,15 @@ pub record RanThrough (steps : ℕ) (old new : State) (out out' err err' : Told)
   pub out_grew : Grew out out' (after (machine_from old) steps).out
   pub err_grew : Grew err err' (after (machine_from old) steps).err
 
--- the put of output fd failed: the machine stands right after that write's step; the sinks have what was written before,
--- and of the failed put's bytes a front
+-- the put of output fd failed: the machine stands right after the step that wrote those bytes, at least one; the sinks
+-- have what was written before, and of the failed put's bytes a front
 pub record Stopped (steps : ℕ) (old new : State) (out out' err err' : Told) (fd : ℕ) : Type 0 where
   pub before : ℕ
   pub within : before < steps
   pub state : new ≡ (after (machine_from old) (suc before)).state
   pub output : (fd ≡ 1) ⊎ (fd ≡ 2)
+  pub out_wrote : fd ≡ 1 → 0 < length (emitted (after (machine_from old) before).state 1)
+  pub err_wrote : fd ≡ 2 → 0 < length (emitted (after (machine_from old) before).state 2)
   pub out_broke : fd ≡ 1 → BrokeOff out out' (after (machine_from old) before).out (emitted (after (machine_from old) before).state 1)
   pub out_whole : fd ≡ 2 → Grew out out' (after (machine_from old) before).out
   pub err_broke : fd ≡ 2 → BrokeOff err err' (after (machine_from old) before).err (emitted (after (machine_from old) before).state 2)
@@ -58,9 +60,11 @@ Ran steps old new out out' err err' ends.Budget = RanThrough steps old new out o
 Ran steps old new out out' err err' (ends.Faulted kind pc) = RanThrough steps old new out out' err err' (ends.Faulted kind pc)
 Ran steps old new out out' err err' (ends.SinkFault fd) = Stopped steps old new out out' err err' fd
 
--- a put of one step's bytes to output fd has failed: its sink has a front of them, and the other sink stands
+-- a put of one step's bytes to output fd has failed, which are some: its sink has a front of them, and the other sink stands
 pub record GaveFront (fd : ℕ) (one two : List ℕ) (out out' err err' : Told) : Type 0 where
   pub output : (fd ≡ 1) ⊎ (fd ≡ 2)
+  pub out_wrote : fd ≡ 1 → 0 < length one
+  pub err_wrote : fd ≡ 2 → 0 < length two
   pub out_broke : fd ≡ 1 → BrokeOff out out' [] one
   pub out_whole : fd ≡ 2 → Grew out out' []
   pub err_broke : fd ≡ 2 → BrokeOff err err' [] two
