@@ -95,6 +95,8 @@ module _ (l : ℕ) (g : Grammar) (f : fine tail g ≡ true) (ts : List Lexeme) w
       let d : Opens body l g ts rest = (subst (Deep body l g ts) h (run_deep body l g ts)).0 in
       let o = opens_front body d in
       record {
+        open_levels = (ended rest missing h).count;
+        before = (ended rest missing h).front;
         token = o.token;
         behind = o.behind;
         there = o.there;

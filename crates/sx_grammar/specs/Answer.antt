@@ -39,8 +39,10 @@ pub record IsMisfit (l : ℕ) (g : Grammar) (ts rest : List Lexeme) : Type 0 whe
   pub shallow : IsShallow l g ts
   pub room : starts bracket_classes rest ≡ true → HasRoom l g ts rest
 
--- The token at the rest opens a level too much: with it more are open than there may be, and never before.
+-- The token at the rest opens a level too much: the tokens before it are a front, with it more levels are open than there may be, and never before.
 pub record OpensTooMuch (l : ℕ) (g : Grammar) (ts rest : List Lexeme) : Type 0 where
+  pub open_levels : ℕ
+  pub before : Front body open_levels g ts rest
   pub token : Lexeme
   pub behind : List Lexeme
   pub there : rest ≡ token ∷ behind

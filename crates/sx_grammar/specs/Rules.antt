@@ -810,7 +810,7 @@ unfoldable pub from_other : Grammar
 from_other = giving named_literal (select (begin (any (sorts.Int ∷ sorts.True ∷ sorts.False ∷ sorts.SelfWord ∷ sorts.Negate ∷ sorts.Not ∷ sorts.OpenBrace ∷ sorts.OpenObservers ∷ names)) expr_statement) is_name_statement (either named_signature others) others)
 
 abbrev pub closure_parameter_of : Name → Value → ClosureParameter
-closure_parameter_of n v = record { name = n; inout = is_some_value (first_of (second_of v)); ty = type_in (second_of (second_of v)) }
+closure_parameter_of n v = record { name = n; inout = (type_parameter_in v).inout; ty = (type_parameter_in v).ty }
 
 abbrev pub closure_parameter_in : Value → ClosureParameter
 closure_parameter_in (a_closure_parameter p) = p
@@ -818,7 +818,7 @@ closure_parameter_in v = record { name = no_name; inout = false; ty = no_type }
 
 -- a colon and a type
 unfoldable pub closure_parameter_type : Grammar
-closure_parameter_type = both (token (any (sorts.Colon ∷ []))) (both (optional (token (any (sorts.Inout ∷ [])))) any_type)
+closure_parameter_type = giving second_of (both (token (any (sorts.Colon ∷ []))) type_parameter)
 
 unfoldable pub closure_parameter : Grammar
 closure_parameter = giving (λ v. a_closure_parameter (closure_parameter_of (name_in (first_of v)) (second_of v))) (both a_name closure_parameter_type)

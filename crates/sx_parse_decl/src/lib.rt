@@ -27,4 +27,4 @@ pub use heads::{
 pub use lexing::lexemes;
 pub use parameter_lists::{parameters, subscript_parameters};
 pub use stop::Stop;
-pub use types::{arrow, typed, written_type};
+pub use types::{arrow, type_parameter, typed, written_type};

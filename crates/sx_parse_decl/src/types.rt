@@ -78,9 +78,10 @@ pub fn arrow(
     Ok((sign, ty, rest))
 }
 
+/// A parameter of a function type: perhaps `inout`, and its type.
 #[cycle(types)]
 #[tactic(auto, unfolding(sx_grammar::specs::Grammar::run, sx_grammar::specs::Grammar::run_with, sx_grammar::specs::Rules::type_parameter))]
-fn type_parameter(
+pub fn type_parameter(
     alloc: Global,
     lexemes: &[Lexeme],
     levels: u32,
