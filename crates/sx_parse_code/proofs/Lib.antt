@@ -1,0 +1,4 @@
+pub mod Rests
+pub mod Firsts
+pub mod Steps
+pub mod Behind
