@@ -1,0 +1,4 @@
+pub mod Classes
+pub mod Firsts
+pub mod Rows
+mod Adds
