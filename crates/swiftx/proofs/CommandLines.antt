@@ -3,9 +3,10 @@ use Rattle.std.proofs.Common.{◌≡◌, inl, inr, ℕ, ◌<◌, ◌≤◌, List
 use Rattle.std.specs.Prelude.{IfSome, IfNone, String, string_bytes, codes, bytes_eq, Bool, true, false, not}
 use Rattle.std.proofs.lemmas.Slice.Eq.{bytes_eq-Decides}
 use Rattle.std.specs.declared.alloc.Global.{Global}
+use Rattle.std.proofs.lemmas.Bool.{false≢true}
 use Rattle.std.proofs.lemmas.Fmt.{decimal_injective}
-use Rattle.swiftx.specs.Commands.{Command, Run, Exec, IsFileName, IsStepLimit, IsLine, IsCommand, default_steps}
-use Rattle.swiftx.specs.Words.{texts, meaning, IsNamed}
+use Rattle.swiftx.specs.Commands.{Command, Check, Run, Exec, IsFileName, IsStepLimit, IsLine, IsCommand, default_steps}
+use Rattle.swiftx.specs.Words.{texts, meaning, IsNamed, IsNamedAlone}
 use Rattle.swiftx.specs.declared.command.Command.{Command as Parsed}
 use Rattle.swiftx.proofs.Numerals.{limit_small}
 
@@ -79,31 +80,59 @@ long_back words name file number f n known e (h, inr p) =
 one_limit : (number : List ℕ) (m n : ℕ) → IsStepLimit number m → IsStepLimit number n → m ≡ n
 one_limit number m n p q = decimal_injective m n (limit_small m p.1) (limit_small n q.1) (sym p.0 ∙ q.0)
 
-short_is : (words : List (List ℕ)) (name file : List ℕ) (c : Command) → Short words name file → IsNamed name file default_steps c → IsCommand words c
+short_is : (words : List (List ℕ)) (name file : List ℕ) (c : Command) → Short words name file → IsNamedAlone name file c → IsCommand words c
+unfolding Short
+short_is words name file (Check f) e h = (subst IsFileName (sym h.2) h.1, e ∙ ap (λ x. x ∷ file ∷ []) h.0 ∙ ap (λ x. codes "check" ∷ x ∷ []) (sym h.2))
 short_is words name file (Run f n) e h = short_line words name file f n (codes "run") e h
 short_is words name file (Exec f n) e h = short_line words name file f n (codes "exec") e h
 
-short_was : (words : List (List ℕ)) (name file : List ℕ) (c : Command) → Short words name file → IsCommand words c → IsNamed name file default_steps c
+short_was : (words : List (List ℕ)) (name file : List ℕ) (c : Command) → Short words name file → IsCommand words c → IsNamedAlone name file c
+unfolding Short
+short_was words name file (Check f) e h = let s = same_first name (codes "check") file f (sym e ∙ h.1) in (s.0, subst IsFileName (sym s.1) h.0, sym s.1)
 short_was words name file (Run f n) e h = short_back words name file f n (codes "run") e h
 short_was words name file (Exec f n) e h = short_back words name file f n (codes "exec") e h
 
 long_is : (words : List (List ℕ)) (name file number : List ℕ) (steps : ℕ) (c : Command) → Long words name file number → IsStepLimit number steps → IsNamed name file steps c → IsCommand words c
+long_is words name file number steps (Check f) e l h = absurd h
 long_is words name file number steps (Run f n) e l h = long_line words name file number f n steps (codes "run") e l h
 long_is words name file number steps (Exec f n) e l h = long_line words name file number f n steps (codes "exec") e l h
 
 long_was : (words : List (List ℕ)) (name file number : List ℕ) (steps : ℕ) (c : Command) → Long words name file number → IsStepLimit number steps → IsCommand words c → IsNamed name file steps c
+unfolding Long
+long_was words name file number steps (Check f) e l h = absurd (two_is_not_four (codes "check") name f file (codes "--steps") number (sym h.1 ∙ e))
 long_was words name file number steps (Run f n) e l h =
     let b = long_back words name file number f n (codes "run") e h in (b.0, b.1, b.2, one_limit number n steps b.3 l)
 long_was words name file number steps (Exec f n) e l h =
     let b = long_back words name file number f n (codes "exec") e h in (b.0, b.1, b.2, one_limit number n steps b.3 l)
 
+-- a name that is another one, and no limit of steps
+pub alone_some : (name file : List ℕ) (o : Option Parsed) → IfSome o (λ p. IsNamed name file 200000000 (meaning p)) → IfSome o (λ p. IsNamedAlone name file (meaning p))
+unfolding default_steps
+alone_some name file None h = tt
+alone_some name file (Some p) h = by (meaning p) h
+  where
+    by : (c : Command) → IsNamed name file 200000000 c → IsNamedAlone name file c
+    by (Check f) h = absurd h
+    by (Run f n) h = h
+    by (Exec f n) h = h
+
+pub alone_none : (name file : List ℕ) (o : Option Parsed) → false ≡ bytes_eq name (codes "check") → IfNone o ((c : Command) → IsNamed name file 200000000 c → ⊥) → IfNone o ((c : Command) → IsNamedAlone name file c → ⊥)
+unfolding default_steps
+alone_none name file None e h = by
+  where
+    by : (c : Command) → IsNamedAlone name file c → ⊥
+    by (Check f) i = false≢true (e ∙ (bytes_eq-Decides name (codes "check")).1 i.0)
+    by (Run f n) i = h (Run f n) i
+    by (Exec f n) i = h (Exec f n) i
+alone_none name file (Some p) e h = tt
+
 -- what is found for the words, and that nothing else is
-pub short_some : (words : List (List ℕ)) (name file : List ℕ) (o : Option Parsed) → words ≡ name ∷ file ∷ [] → IfSome o (λ p. IsNamed name file 200000000 (meaning p)) → IfSome o (λ p. IsCommand words (meaning p))
+pub short_some : (words : List (List ℕ)) (name file : List ℕ) (o : Option Parsed) → words ≡ name ∷ file ∷ [] → IfSome o (λ p. IsNamedAlone name file (meaning p)) → IfSome o (λ p. IsCommand words (meaning p))
 unfolding Short default_steps
 short_some words name file None e h = tt
 short_some words name file (Some p) e h = short_is words name file (meaning p) e h
 
-pub short_none : (words : List (List ℕ)) (name file : List ℕ) (o : Option Parsed) → words ≡ name ∷ file ∷ [] → IfNone o ((c : Command) → IsNamed name file 200000000 c → ⊥) → IfNone o ((c : Command) → IsCommand words c → ⊥)
+pub short_none : (words : List (List ℕ)) (name file : List ℕ) (o : Option Parsed) → words ≡ name ∷ file ∷ [] → IfNone o ((c : Command) → IsNamedAlone name file c → ⊥) → IfNone o ((c : Command) → IsCommand words c → ⊥)
 unfolding Short default_steps
 short_none words name file None e h = λ c i. h c (short_was words name file c e i)
 short_none words name file (Some p) e h = tt
@@ -120,6 +149,7 @@ long_none words name file number steps (Some p) e l h = tt
 
 pub no_limit : (words : List (List ℕ)) (name file number : List ℕ) (c : Command) → words ≡ name ∷ file ∷ codes "--steps" ∷ number ∷ [] → ((n : ℕ) → IsStepLimit number n → ⊥) → IsCommand words c → ⊥
 unfolding Long
+no_limit words name file number (Check f) e none h = absurd (two_is_not_four (codes "check") name f file (codes "--steps") number (sym h.1 ∙ e))
 no_limit words name file number (Run f n) e none h = none n (long_back words name file number f n (codes "run") e h).3
 no_limit words name file number (Exec f n) e none h = none n (long_back words name file number f n (codes "exec") e h).3
 

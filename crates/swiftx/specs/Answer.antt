@@ -9,7 +9,7 @@ use Rattle.swiftx.specs.Due.{Due, IsDue}
 use Rattle.swiftx.specs.Outside.{Outside, Asked}
 use Rattle.swiftx.specs.Target.{start, target}
 use Rattle.swiftx.specs.declared.outcome.Outcome.{Outcome}
-use Rattle.swiftx.specs.declared.outcome.Outcome.TheVariants.{Exited, Usage, Refused, ElfRefused, Budget, MachineFault, StoreFault, SinkFault, NoMemory}
+use Rattle.swiftx.specs.declared.outcome.Outcome.TheVariants.{Done, Exited, Usage, Refused, ElfRefused, Budget, MachineFault, StoreFault, SinkFault, NoMemory}
 use Rattle.swiftx.specs.declared.bench.Bench.{Bench}
 
 -- the machine of a file after so many steps
@@ -57,6 +57,7 @@ pub data Broken (due : Due) (out out' err err' : Told) (bench : Bench) : Type 0 
 -- the store's count rose exactly where its fault is due
 abbrev pub StoreCount : Outcome → ℕ → ℕ → Type 0
 StoreCount StoreFault before now = Rose before now
+StoreCount Done before now = now ≡ before
 StoreCount (Exited status) before now = now ≡ before
 StoreCount Usage before now = now ≡ before
 StoreCount (Refused fault) before now = now ≡ before
@@ -92,6 +93,7 @@ pub record HasNoMemory (words : List (List ℕ)) (old new : Outside) : Type 0 wh
   pub asked : Asked old new [] ⊎ (command : Command) × IsCommand words command × Asked old new (reading (file_name command) ∷ [])
 
 abbrev pub Answered : List (List ℕ) → Outside → Outside → Bench → Outcome → Type 0
+Answered words old new bench Done = IsDone words old new bench Done
 Answered words old new bench Usage = IsDone words old new bench Usage
 Answered words old new bench (Refused fault) = IsDone words old new bench (Refused fault)
 Answered words old new bench (ElfRefused stop) = IsDone words old new bench (ElfRefused stop)

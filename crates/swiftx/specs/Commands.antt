@@ -2,8 +2,10 @@
 use Rattle.std.specs.Prelude.{◌≡◌, ◌⊎◌, ◌≢◌, ℕ, ◌≤◌, List, [], ◌∷◌, codes}
 use Rattle.std.specs.Fmt.{decimal}
 
--- a command with its file and its limit of machine steps
+-- a command with its file, and its limit of machine steps where it runs something
 pub data Command : Type 0 where
+  -- refuse a text, or accept it
+  Check : (file : List ℕ) → Command
   -- compile a text and run it
   Run : (file : List ℕ) (steps : ℕ) → Command
   -- load an executable and run it
@@ -11,6 +13,7 @@ pub data Command : Type 0 where
 
 -- the file that a command reads
 abbrev pub file_name : Command → List ℕ
+file_name (Check file) = file
 file_name (Run file steps) = file
 file_name (Exec file steps) = file
 
@@ -37,5 +40,6 @@ IsLine name words file steps =
     ⊎ (number : List ℕ) × (words ≡ name ∷ file ∷ codes "--steps" ∷ number ∷ []) × IsStepLimit number steps)
 
 abbrev pub IsCommand : List (List ℕ) → Command → Type 0
+IsCommand words (Check file) = IsFileName file × (words ≡ codes "check" ∷ file ∷ [])
 IsCommand words (Run file steps) = IsLine (codes "run") words file steps
 IsCommand words (Exec file steps) = IsLine (codes "exec") words file steps

@@ -5,19 +5,23 @@ use Rattle.sx_io.specs.Outside.{Files, Call, reading}
 use Rattle.sx_runs.specs.Machine.{after, shown}
 use Rattle.sx_runs.specs.Performs.{Performs}
 use Rattle.sx_runs.specs.Ending.{Ending, Status}
-use Rattle.swiftx.specs.Commands.{Command, Run, Exec, IsCommand, file_name}
+use Rattle.swiftx.specs.Commands.{Command, Check, Run, Exec, IsCommand, file_name}
 use Rattle.swiftx.specs.Prints.{PrintsText, PrintsNothing}
 use Rattle.swiftx.specs.Source.{source}
 use Rattle.swiftx.specs.Target.{start, target}
-use Rattle.swiftx.specs.Lines.{usage_line, store_line, unbuilt_line, elf_line, fault_line}
+use Rattle.swiftx.specs.Lines.{usage_line, store_line, elf_line, fault_line}
 use Rattle.sx_elf.specs.Tests.{first_fault}
 use Rattle.sx_elf.specs.declared.elf_stop.ElfStop.{ElfStop}
 use Rattle.sx_rv_machine.specs.Run.{Running, machine_from}
 use Rattle.sx_rv_machine.specs.declared.machine.Ending.{Ending as MachineEnding}
 use Rattle.sx_rv_machine.specs.declared.machine.Ending.TheVariants.{Exits, Faults}
 use Rattle.swiftx.specs.declared.outcome.Outcome.{Outcome}
-use Rattle.swiftx.specs.declared.outcome.Outcome.TheVariants.{Exited, Usage, Refused, ElfRefused, Budget, MachineFault, StoreFault, SinkFault, NoMemory}
-use Rattle.swiftx.specs.declared.outcome.Fault.TheVariants.{Unbuilt}
+use Rattle.swiftx.specs.declared.outcome.Outcome.TheVariants.{Done, Exited, Usage, Refused, ElfRefused, Budget, MachineFault, StoreFault, SinkFault, NoMemory}
+use Rattle.sx_tree.specs.declared.tree.Tree.{Tree}
+use Rattle.sx_driver.specs.Faults.{HasTree, IsFault}
+use Rattle.sx_driver.specs.Lines.{fault_line as refusal_line}
+use Rattle.sx_driver.specs.declared.fault.Fault.{Fault}
+use Rattle.sx_driver.specs.declared.fault.Fault.TheVariants.{Unbuilt}
 
 -- What is due: the outcome; the bytes that the machine itself writes to the two outputs; the line that tells of the
 -- outcome, put behind them to the second output; and what the bench is to hold: the file that was built, the file whose
@@ -34,6 +38,14 @@ pub record Due : Type 0 where
 -- a line on the second output, and nothing else
 abbrev pub line_due : Outcome → List ℕ → Due
 line_due outcome line = record { outcome = outcome; out = []; err = []; line = line; built = None; ran = None; steps = 0 }
+
+-- nothing to say
+abbrev pub nothing_due : Outcome → Due
+nothing_due outcome = line_due outcome []
+
+-- the line of a fault of the text
+abbrev pub refusal_due : List ℕ → Fault → Due
+refusal_due text fault = line_due (Refused fault) (refusal_line text fault)
 
 -- the machine of a built file, after all the steps of its limit; no line tells of its end
 abbrev pub run_due : Outcome → List ℕ → ℕ → Due
@@ -73,6 +85,7 @@ most_file = 268435456
 
 -- how many bytes of its file a command reads
 abbrev pub most_of : Command → ℕ
+most_of (Check file) = most_text
 most_of (Run file steps) = most_text
 most_of (Exec file steps) = most_file
 
@@ -86,6 +99,7 @@ pub record IsBuilt (text file : List ℕ) : Type 0 where
 abbrev pub ends_as : Outcome → Option (Option Ending)
 ends_as (Exited status) = Some (Some (Status status))
 ends_as Budget = Some None
+ends_as Done = None
 ends_as Usage = None
 ends_as (Refused fault) = None
 ends_as (ElfRefused stop) = None
@@ -94,12 +108,21 @@ ends_as StoreFault = None
 ends_as SinkFault = None
 ends_as NoMemory = None
 
--- what is due for a text that was read
+-- what is due for a text that is to be checked
+pub data CheckDue (text : List ℕ) : Due → Type 0 where
+  -- the text breaks a rule, this one first
+  faulty : (fault : Fault) → IsFault text fault → CheckDue text (refusal_due text fault)
+  -- the text has a tree
+  sound : (tree : Tree) → HasTree text tree → CheckDue text (nothing_due Done)
+
+-- what is due for a text that is to be run
 pub data TextDue (text : List ℕ) (steps : ℕ) : Due → Type 0 where
-  -- the text is refused
-  refused : PrintsNothing text → TextDue text steps (line_due (Refused Unbuilt) unbuilt_line)
+  -- the text breaks a rule, this one first
+  refused : (fault : Fault) → IsFault text fault → TextDue text steps (refusal_due text fault)
+  -- the text has a tree, and is no text of prints
+  unbuilt : (tree : Tree) → HasTree text tree → PrintsNothing text → TextDue text steps (refusal_due text Unbuilt)
   -- the text is built and run
-  ran : (file : List ℕ) (outcome : Outcome) → IsBuilt text file → ends_as outcome ≡ Some (shown (target file) steps).ending → TextDue text steps (run_due outcome file steps)
+  ran : (tree : Tree) → HasTree text tree → (file : List ℕ) (outcome : Outcome) → IsBuilt text file → ends_as outcome ≡ Some (shown (target file) steps).ending → TextDue text steps (run_due outcome file steps)
 
 -- what is due for an executable that was read
 pub data ElfDue (file : List ℕ) (steps : ℕ) : Due → Type 0 where
@@ -110,6 +133,7 @@ pub data ElfDue (file : List ℕ) (steps : ℕ) : Due → Type 0 where
 
 -- what is due for a command whose file was read
 abbrev pub ReadDue : Command → List ℕ → Due → Type 0
+ReadDue (Check file) text due = CheckDue text due
 ReadDue (Run file steps) text due = TextDue text steps due
 ReadDue (Exec file steps) bytes due = ElfDue bytes steps due
 

@@ -12,9 +12,6 @@ usage_line = codes "usage: swiftx check FILE | build FILE -o OUT | run FILE [--s
 unfoldable pub store_line : List ℕ
 store_line = codes "store fault" ++ 10 ∷ []
 
-unfoldable pub unbuilt_line : List ℕ
-unbuilt_line = codes "error unbuilt" ++ 10 ∷ []
-
 -- Why an executable is refused, with numbers in decimal digits. Want of memory refuses no file.
 unfoldable pub elf_line : ElfStop → Option (List ℕ)
 elf_line (Short end) = Some (codes "elf short " ++ decimal end ++ 10 ∷ [])

@@ -1,18 +1,22 @@
 -- What the parts of a call do, in the words of the whole.
-use Rattle.std.specs.Prelude.{◌≡◌, ◌⊎◌, ℕ, List, [], Some}
+use Rattle.std.specs.Prelude.{◌≡◌, ◌⊎◌, ℕ, List, [], Option, None, Some}
 use Rattle.sx_runs.specs.Machine.{shown}
 use Rattle.sx_runs.specs.Performs.{Performs}
 use Rattle.sx_rv_machine.specs.Put.{Told, Grew, BrokeOff}
 use Rattle.swiftx.specs.Answer.{Completed, Broken}
-use Rattle.swiftx.specs.Due.{Due, TextDue, ElfDue, ReadDue, run_due, exec_due, ends_as}
+use Rattle.swiftx.specs.Due.{Due, CheckDue, TextDue, ElfDue, ReadDue, run_due, exec_due, ends_as}
 use Rattle.swiftx.specs.Source.{source}
+use Rattle.sx_tree.specs.declared.tree.Tree.{Tree}
+use Rattle.sx_driver.specs.Faults.{HasTree, IsFault, IsPlaced}
+use Rattle.sx_driver.specs.Lines.{fault_line}
+use Rattle.sx_driver.specs.declared.fault.Fault.{Fault}
 use Rattle.swiftx.specs.Lines.{elf_line}
 use Rattle.swiftx.specs.Target.{start, target}
 use Rattle.swiftx.specs.Commands.{Command}
 use Rattle.sx_elf.specs.declared.elf_stop.ElfStop.{ElfStop}
 use Rattle.sx_rv_machine.specs.State.{State}
 use Rattle.swiftx.specs.declared.outcome.Outcome.{Outcome}
-use Rattle.swiftx.specs.declared.outcome.Outcome.TheVariants.{SinkFault, NoMemory, ElfRefused}
+use Rattle.swiftx.specs.declared.outcome.Outcome.TheVariants.{SinkFault, NoMemory, Refused, ElfRefused}
 use Rattle.swiftx.specs.declared.bench.Bench.{Bench}
 
 -- the line stands at the end of the second output, or its put failed
@@ -46,6 +50,21 @@ pub record TextSettled (text : List ℕ) (steps : ℕ) (out out' err err' : Told
   pub due : Due
   pub is : TextDue text steps due
   pub settled : Settled due out out' err err' bench result
+
+-- what was due for a text that was checked was settled
+pub record CheckSettled (text : List ℕ) (out out' err err' : Told) (bench : Bench) (result : Outcome) : Type 0 where
+  pub due : Due
+  pub is : CheckDue text due
+  pub settled : Settled due out out' err err' bench result
+
+-- the text breaks this rule first, or it has a tree
+abbrev pub Judged : List ℕ → Option Fault → Type 0
+Judged text None = (tree : Tree) × HasTree text tree
+Judged text (Some fault) = IsFault text fault × IsPlaced text fault
+
+-- the line of a fault of the text stands at the end of the second output, or its put failed
+abbrev pub FaultSaid : List ℕ → Fault → Outcome → Told → Told → Type 0
+FaultSaid text fault result err err' = Said (Refused fault) result (fault_line text fault) err err'
 
 -- the line of a refused executable stands at the end of the second output, or its put failed
 pub record StopSaid (stop : ElfStop) (result : Outcome) (err err' : Told) : Type 0 where

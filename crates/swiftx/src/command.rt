@@ -3,11 +3,13 @@ ghost use Rattle.std.specs.Prelude.{◌≡◌, ℕ, List, map, string_bytes, IfS
 ghost use Rattle.swiftx.specs.Commands.{IsFileName, IsStepLimit, IsCommand, Command as CommandLine, default_steps, file_name, greatest_steps};
 ghost use Rattle.swiftx.specs.Due.{most_of};
 ghost use Rattle.std.specs.Str.{all_ascii_digits};
-ghost use Rattle.swiftx.specs.Words.{texts, meaning, IsNamed, IsPlainNumeral};
+ghost use Rattle.swiftx.specs.Words.{texts, meaning, IsNamed, IsNamedAlone, IsPlainNumeral};
 
 /// What the words ask for.
 #[derive(Clone, Copy, Debug, PartialEq, Eq)]
 pub enum Command<'a> {
+    /// To refuse the text in a file, or to accept it.
+    Check { file: &'a str },
     /// To compile the text in a file, and to run it for at most so many machine steps.
     Run { file: &'a str, steps: u64 },
     /// To load the executable in a file, and to run it for at most so many machine steps.
@@ -26,6 +28,7 @@ impl Command<'_> {
         ensures { result.now ≡ file_name (meaning self.now) }
     {
         match self {
+            Command::Check { file } => file,
             Command::Run { file, .. } => file,
             Command::Exec { file, .. } => file,
         }
@@ -37,6 +40,7 @@ impl Command<'_> {
         ensures { result ≡ most_of (meaning self.now) }
     {
         match self {
+            Command::Check { .. } => MOST_TEXT,
             Command::Run { .. } => MOST_TEXT,
             Command::Exec { .. } => MOST_FILE,
         }
@@ -55,7 +59,7 @@ pub fn command_of(words: &[String]) -> Option<Command<'_>>
     ensures none { IfNone result ((command : CommandLine) → IsCommand (texts words.now) command → ⊥) }
 {
     match words {
-        [name, file] => with_file(name, file, DEFAULT_STEPS),
+        [name, file] => with_name(name, file),
         [name, file, option, number] => {
             if option.as_str() != "--steps" {
                 return None;
@@ -69,6 +73,23 @@ pub fn command_of(words: &[String]) -> Option<Command<'_>>
     }
 }
 
+// The command of a name and a file, where no limit of steps is told.
+fn with_name<'a>(name: &str, file: &'a str) -> Option<Command<'a>>
+    ensures some { IfSome result (λ command. IsNamedAlone name.now file.now (meaning command)) }
+    ensures none { IfNone result ((command : CommandLine) → IsNamedAlone name.now file.now command → ⊥) }
+{
+    if name == "check" {
+        if is_file_name(file) {
+            Some(Command::Check { file })
+        } else {
+            None
+        }
+    } else {
+        with_file(name, file, DEFAULT_STEPS)
+    }
+}
+
+// The command of a name, a file and a limit of steps.
 fn with_file<'a>(name: &str, file: &'a str, steps: u64) -> Option<Command<'a>>
     ensures some { IfSome result (λ command. IsNamed name.now file.now steps (meaning command)) }
     ensures none { IfNone result ((command : CommandLine) → IsNamed name.now file.now steps command → ⊥) }

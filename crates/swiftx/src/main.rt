@@ -7,6 +7,9 @@
 
 mod bench;
 mod building;
+mod checking;
+#[cfg(test)]
+mod checks;
 mod command;
 mod executing;
 mod messages;

@@ -16,8 +16,6 @@ pub(crate) const USAGE_LINE: &[u8] =
 
 pub(crate) const STORE_LINE: &[u8] = b"store fault\n";
 
-pub(crate) const UNBUILT_LINE: &[u8] = b"error unbuilt\n";
-
 /// The greatest size of the line for a fault of the machine, in bytes.
 const MOST_FAULT_LINE: usize = 51;
 

@@ -2,19 +2,15 @@
 ghost use Rattle.std.specs.Prelude.{◌≡◌};
 ghost use Rattle.swiftx.specs.Status.{status_of};
 
+use sx_driver::Fault;
 use sx_elf::ElfStop;
 use sx_rv_isa::MachineKind;
-
-/// Why a text is refused.
-#[derive(Clone, Copy, Debug, PartialEq, Eq)]
-pub enum Fault {
-    /// The text is not of the forms that are built today: a line each of `print("...")`.
-    Unbuilt,
-}
 
 /// What a call answers.
 #[derive(Clone, Copy, Debug, PartialEq, Eq)]
 pub enum Outcome {
+    /// What was asked for was done, and no program ran.
+    Done,
     /// The program that ran has exited with this status.
     Exited(u8),
     /// The words are no command line.
@@ -40,6 +36,7 @@ pub fn code(outcome: &Outcome) -> u8
     ensures { result ≡ status_of outcome.now }
 {
     match outcome {
+        Outcome::Done => 0,
         Outcome::Exited(status) => *status,
         Outcome::Usage => 2,
         Outcome::StoreFault => 3,

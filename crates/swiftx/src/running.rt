@@ -1,7 +1,7 @@
 //! Source texts, which are compiled and run.
 ghost use Rattle.std.specs.Prelude.{◌≡◌, ◌⊎◌, ◌<◌, ◌^◌, ℕ, None, Some, length};
 ghost use Rattle.swiftx.specs.Found.{bytes_of_all};
-ghost use Rattle.swiftx.specs.Parts.{RanOut, FileSettled, PrintsSettled, TextSettled};
+ghost use Rattle.swiftx.specs.Parts.{RanOut, Judged, FileSettled, PrintsSettled, TextSettled};
 ghost use Rattle.swiftx.specs.PrintCode.{AreShort, code_of};
 ghost use Rattle.swiftx.specs.Target.{start, target};
 ghost use Rattle.sx_runs.specs.Machine.{shown};
@@ -9,10 +9,11 @@ ghost use Rattle.sx_runs.specs.Ending.{Broken};
 
 use crate::bench::{Bench, Built};
 use crate::building::{built, machine_of};
-use crate::messages::{UNBUILT_LINE, say};
-use crate::outcome::{Fault, Outcome};
+use crate::checking::{fault_of, refuse_text};
+use crate::outcome::Outcome;
 use crate::prints::literals_of;
 use std::alloc::Global;
+use sx_driver::Fault;
 use sx_elf::read_of_write;
 use sx_io::Sink;
 use sx_rv_isa::{reads_back, words_fit};
@@ -32,11 +33,35 @@ pub(crate) fn run_text<O: Sink, E: Sink>(
     ensures { RanOut (record { bytes = O.written out.old; faults = O.faults out.old }) (record { bytes = O.written out.new; faults = O.faults out.new }) (record { bytes = E.written err.old; faults = E.faults err.old }) (record { bytes = E.written err.new; faults = E.faults err.new }) result
         ⊎ TextSettled text.now steps (record { bytes = O.written out.old; faults = O.faults out.old }) (record { bytes = O.written out.new; faults = O.faults out.new }) (record { bytes = E.written err.old; faults = E.faults err.old }) (record { bytes = E.written err.new; faults = E.faults err.new }) bench.new result }
 {
+    let Ok(fault) = fault_of(alloc, text) else {
+        return Outcome::NoMemory;
+    };
+    match fault {
+        None => run_sound(alloc, text, steps, out, err, bench),
+        Some(fault) => refuse_text(alloc, text, fault, err),
+    }
+}
+
+// Compiles a text without fault, and runs what was built.
+fn run_sound<O: Sink, E: Sink>(
+    alloc: Global,
+    text: &[u8],
+    steps: u64,
+    out: &mut O,
+    err: &mut E,
+    bench: &mut Bench,
+) -> Outcome
+    requires sound { Judged text.now None }
+    requires built { bench.old.built ≡ None }
+    requires machine { bench.old.machine ≡ None }
+    ensures { RanOut (record { bytes = O.written out.old; faults = O.faults out.old }) (record { bytes = O.written out.new; faults = O.faults out.new }) (record { bytes = E.written err.old; faults = E.faults err.old }) (record { bytes = E.written err.new; faults = E.faults err.new }) result
+        ⊎ TextSettled text.now steps (record { bytes = O.written out.old; faults = O.faults out.old }) (record { bytes = O.written out.new; faults = O.faults out.new }) (record { bytes = E.written err.old; faults = E.faults err.old }) (record { bytes = E.written err.new; faults = E.faults err.new }) bench.new result }
+{
     let Ok(found) = literals_of(alloc, text) else {
         return Outcome::NoMemory;
     };
     match found {
-        None => say(err, UNBUILT_LINE, Outcome::Refused(Fault::Unbuilt)),
+        None => refuse_text(alloc, text, Fault::Unbuilt, err),
         Some(literals) => run_prints(alloc, &literals, steps, out, err, bench),
     }
 }

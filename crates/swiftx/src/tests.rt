@@ -1,10 +1,11 @@
 //! The top call over stores and sinks in memory.
 use crate::bench::Bench;
-use crate::outcome::{Fault, Outcome, code};
+use crate::outcome::{Outcome, code};
 use crate::top::swiftx;
 use std::alloc::{AllocError, Global};
 use std::process::Abort;
 use std::test::Fail;
+use sx_driver::Fault;
 use sx_elf::ElfStop;
 use sx_io::{MemSink, MemStore, NoMemory};
 use sx_rv_isa::MachineKind;
@@ -72,7 +73,8 @@ fn sink(alloc: Global, failing: Vec<u64>) -> Result<MemSink, Fail> {
     }
 }
 
-fn ends(
+/// A call over a store with one file ends with this outcome and these outputs.
+pub(crate) fn ends(
     rt: &impl Abort,
     alloc: Global,
     line: &str,
@@ -175,6 +177,8 @@ fn other_words_are_told_the_usage(rt: HostRuntime) -> Result<(), Fail> {
         "",
         "run",
         "run -a",
+        "check",
+        "check a.swift --steps 1",
         "run a.swift --steps 01",
         "run a.swift --steps",
         "work 901",
@@ -431,6 +435,7 @@ fn files_that_cannot_be_loaded_are_refused(rt: HostRuntime) -> Result<(), Fail> 
 
 #[test]
 fn each_outcome_has_its_status(rt: HostRuntime) {
+    assert_eq!(rt; code(&Outcome::Done), 0);
     assert_eq!(rt; code(&Outcome::Exited(70)), 70);
     assert_eq!(rt; code(&Outcome::Usage), 2);
     assert_eq!(rt; code(&Outcome::StoreFault), 3);

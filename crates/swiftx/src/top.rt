@@ -6,6 +6,7 @@ ghost use Rattle.swiftx.specs.Parts.{RanOut, CommandSettled};
 ghost use Rattle.swiftx.specs.Words.{meaning, texts};
 
 use crate::bench::Bench;
+use crate::checking::check_text;
 use crate::command::{Command, command_of};
 use crate::executing::exec_file;
 use crate::messages::{STORE_LINE, USAGE_LINE, say};
@@ -59,6 +60,7 @@ fn perform<O: Sink, E: Sink>(
         ⊎ CommandSettled (meaning command.now) bytes.items (record { bytes = O.written out.old; faults = O.faults out.old }) (record { bytes = O.written out.new; faults = O.faults out.new }) (record { bytes = E.written err.old; faults = E.faults err.old }) (record { bytes = E.written err.new; faults = E.faults err.new }) bench.new result }
 {
     match command {
+        Command::Check { .. } => check_text(alloc, &bytes, out, err, bench),
         Command::Run { steps, .. } => run_text(alloc, &bytes, *steps, out, err, bench),
         Command::Exec { steps, .. } => exec_file(alloc, bytes, *steps, out, err, bench),
     }

@@ -1,0 +1,89 @@
+#!/usr/bin/env python3
+"""Bytes per second through `swiftx check`, for texts of 262,144 bytes that are dense in one thing each.
+
+Prints, for each text, bytes per second of processor time (the best of three runs), the greatest memory of the process,
+and what the program answered. Usage: bench/check.py [PROGRAM], where PROGRAM is the built swiftx.
+"""
+import os
+import subprocess
+import sys
+import tempfile
+
+TOP = os.path.dirname(os.path.dirname(os.path.abspath(__file__)))
+MOST = 262_144
+MOST_TOKENS = 65_536
+
+
+def filled(unit, tokens, head="", tail=""):
+    """As many whole units of so many tokens as a text may have, padded with spaces to its greatest length."""
+    room = MOST - len(head) - len(tail)
+    count = min(room // len(unit), (MOST_TOKENS - 40) // tokens)
+    return (head + unit * count).ljust(MOST - len(tail)) + tail
+
+
+def short_statements():
+    return filled("tally(argument)\n", 4, "func tally(_ a: Int) {}\nlet argument = 1\n")
+
+
+def tokens_without_space():
+    return filled("a=a+1;", 6, "var a=1;")
+
+
+def deep_nesting():
+    return filled("a = " + "(  " * 190 + "1" + ")   " * 190 + "\n", 383, "var a = 1\n")
+
+
+def long_chain():
+    return filled(" + 12345", 2, "print(1", ")")
+
+
+def many_names():
+    lines, size, number = [], 0, 0
+    while True:
+        line = f"let name{number} = {number}\n"
+        if size + len(line) > MOST:
+            return "".join(lines).ljust(MOST)
+        lines.append(line)
+        size += len(line)
+        number += 1
+
+
+def long_comments():
+    return filled("/* " + "comment " * 100 + "*/\n", 1, "print(1)\n")
+
+
+def long_literals():
+    return filled('print("' + "text " * 200 + '")\n', 4)
+
+
+TEXTS = [("short statements", short_statements), ("tokens", tokens_without_space), ("deep nesting", deep_nesting),
+         ("one long chain", long_chain), ("many names", many_names), ("long comments", long_comments),
+         ("long literals", long_literals)]
+
+
+def measured(words):
+    """Processor seconds, greatest memory in bytes, the status and the second output of one run."""
+    with tempfile.TemporaryFile() as err:
+        child = subprocess.Popen(words, stdout=subprocess.DEVNULL, stderr=err)
+        _, status, usage = os.wait4(child.pid, 0)
+        err.seek(0)
+        return usage.ru_utime + usage.ru_stime, usage.ru_maxrss * 1024, os.waitstatus_to_exitcode(status), err.read()
+
+
+def main():
+    program = sys.argv[1] if len(sys.argv) > 1 else os.path.join(TOP, "swiftx")
+    with tempfile.TemporaryDirectory() as folder:
+        for name, text_of in TEXTS:
+            path = os.path.join(folder, "text.swift")
+            with open(path, "w") as file:
+                file.write(text_of())
+            runs = [measured([program, "check", path]) for _ in range(3)]
+            seconds = max(min(run[0] for run in runs), 1e-6)
+            memory = max(run[1] for run in runs)
+            answer = runs[0][3].decode().strip() or f"status {runs[0][2]}"
+            print(f"{name:18} {os.path.getsize(path) / seconds / 1e6:7.2f} MB a second, {memory / 1e6:6.1f} MB of memory, {answer}",
+                  flush=True)
+
+
+if __name__ == "__main__":
+    main()
