@@ -1,0 +1,4 @@
+mod Counted
+mod Gained
+mod Nesting
+mod Same
