@@ -1,3 +1,4 @@
+pub mod Functions
 pub mod Layers
 pub mod Observed
 pub mod Storage

@@ -1,8 +1,5 @@
 // Expressions, paths and statements.
 
-ghost use Rattle.std.specs.Prelude.{◌↔◌, IsTrue};
-ghost use Rattle.sx_typed.specs.Observed.{AreInPlace};
-
 use sqlite_items::{Boxed, Items};
 use sx_span::Node;
 use sx_types::Ty;
@@ -36,31 +33,19 @@ pub enum Operator {
     NotSame,
 }
 
-/// The functions of a computed property, a computed global or a subscript, by their numbers.
+/// The nodes of the accessors of a computed property, a computed global or a subscript.
 #[derive(Clone, Copy, Debug, PartialEq, Eq)]
 pub struct Accessors {
-    pub getter: u32,
-    pub setter: Option<u32>,
+    pub getter: Node,
+    pub setter: Option<Node>,
 }
 
-/// The functions that observe a property or global, by their numbers.
+/// The nodes of the observers of a property or global. The function of a `didSet` has a parameter
+/// exactly where it names one or mentions `oldValue`, so that it is given the old value.
 #[derive(Clone, Copy, Debug, PartialEq, Eq)]
 pub struct Observers {
-    pub will_set: Option<u32>,
-    pub did_set: Option<u32>,
-    /// Whether `didSet` names a parameter or mentions `oldValue`, so that it is given the old
-    /// value.
-    pub takes_old: bool,
-}
-
-impl Observers {
-    /// Whether the property or global is modified in its place, with a call of `didSet` behind. It
-    /// is otherwise modified in a temporary, from which it is then set.
-    pub fn are_in_place(self) -> bool
-        ensures { IsTrue result ↔ AreInPlace self }
-    {
-        self.will_set.is_none() && !self.takes_old
-    }
+    pub will_set: Option<Node>,
+    pub did_set: Option<Node>,
 }
 
 /// An expression.
@@ -81,7 +66,10 @@ pub struct Expr {
 #[derive(Drop)]
 #[cycle(code)]
 pub enum Form {
-    Int(i64),
+    /// An integer of at most 2^63 - 1.
+    Int(u64),
+    /// The integer -2^63, written with its minus.
+    LeastInt,
     Bool(bool),
     /// An array with these elements. No text gives this form yet.
     Elements(Items<Expr>),
@@ -91,10 +79,10 @@ pub enum Form {
     Constant(Node),
     /// A stored global declared with `let`.
     GlobalConstant(GlobalMention),
-    /// A function that is taken as a value.
-    Function(u32),
-    /// A closure literal, by the number of its function.
-    Closure(u32),
+    /// A function that is taken as a value, told by the node of its declaration.
+    Function(Node),
+    /// A closure literal, told by its node.
+    Closure(Node),
     /// An expression in round brackets.
     Bracketed(Boxed<Expr>),
     /// The value at a path.
@@ -108,16 +96,19 @@ pub enum Form {
     And(Boxed<Expr>, Boxed<Expr>),
     /// `||`, which evaluates its right side only where the left one is false.
     Or(Boxed<Expr>, Boxed<Expr>),
-    /// A call of a function.
-    Call(u32, Items<Argument>),
-    /// A call of a method that doesn't mutate its base: a value of a structure, or a reference.
-    CallMethod(u32, Boxed<Expr>, Items<Argument>),
-    /// A call of a method that mutates the structure at a path.
-    CallMutating(u32, Lvalue, Items<Argument>),
+    /// A call of a function, told by the node of its declaration.
+    Call(Node, Items<Argument>),
+    /// A call of a method, told by the node of its declaration, that doesn't mutate its base: a
+    /// value of a structure, or a reference.
+    CallMethod(Node, Boxed<Expr>, Items<Argument>),
+    /// A call of a method, told by the node of its declaration, that mutates the structure at a
+    /// path.
+    CallMutating(Node, Lvalue, Items<Argument>),
     /// A call of a function value.
     CallValue(Boxed<Expr>, Items<Argument>),
-    /// A call of a synthesised initialiser with the properties that are given, in their order.
-    Initialise(u32, Items<Given>),
+    /// A call of the synthesised initialiser of the type, with the properties that are given, in
+    /// their order.
+    Initialise(Ty, Items<Given>),
     /// `print` of a value.
     Print(Boxed<Expr>),
     /// `print` of the text at this index of the texts.
@@ -145,9 +136,9 @@ pub enum Argument {
     /// The place where it starts, and the path that is read for the whole call. No text gives this
     /// form yet.
     Borrowed(u32, Lvalue),
-    /// A closure literal that is itself the argument for a parameter that doesn't escape, by the
-    /// number of its function.
-    Literal(u32),
+    /// A closure literal that is itself the argument for a parameter that doesn't escape, told by
+    /// its node.
+    Literal(Node),
 }
 
 /// The value of a stored property that an initialiser is given.
@@ -231,8 +222,6 @@ pub struct Local {
     pub node: Node,
     /// Its index in the names of the program.
     pub name: u32,
-    /// Its number among the locals of the program, in the order of their nodes.
-    pub number: u32,
 }
 
 /// Statements that run one after another.

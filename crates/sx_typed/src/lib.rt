@@ -1,7 +1,7 @@
 //! The typed tree of a program, and the storage that it names.
 //!
-//! In the tree each name is settled: a variable is told by the node of its declaration, and
-//! globals, types and functions by their numbers. Closure literals, accessors and initialisers are
+//! In the tree each name is settled: a variable or function is told by the node of its declaration,
+//! and globals and types by their numbers. Closure literals, accessors and initialisers are
 //! functions like all others. A path has a head and components, which say of each property and
 //! subscript how it is stored or computed.
 //!

@@ -1,6 +1,11 @@
 // A program: its types, globals, functions and initialisers.
 
-use crate::code::{Block, Expr, Local};
+ghost use Rattle.std.specs.Option.{option_copied};
+ghost use Rattle.std.specs.Prelude.{◌≡◌, ◌↔◌, IsTrue, MatchResult, None, slice_get};
+ghost use Rattle.sx_typed.specs.Functions.{RiseByNode, function_at};
+ghost use Rattle.sx_typed.specs.Observed.{IsInPlace, TakesNothing};
+
+use crate::code::{Block, Expr, Observers};
 use sqlite_items::Items;
 use sx_span::Node;
 use sx_types::{Ty, Types};
@@ -34,8 +39,6 @@ pub struct Parameter {
 /// What a function is.
 #[derive(Clone, Copy, Debug, PartialEq, Eq)]
 pub enum FunctionKind {
-    /// The code at the outermost level.
-    TopLevel,
     Function,
     Method,
     /// A method that mutates its structure.
@@ -56,25 +59,23 @@ pub enum FunctionKind {
 }
 
 /// What a closure literal mentions and doesn't declare.
-#[derive(Clone, Copy, Debug, PartialEq, Eq)]
+#[derive(Clone, Copy, Debug, PartialEq, Eq, Hash)]
 pub enum Mention {
     /// A `let` of a block, a parameter that is passed by value, or the `self` of a body that
     /// doesn't mutate it, with its type.
     Constant(Node, Ty),
     /// A `var` of a block.
-    Local(Local),
+    Variable(Node),
     /// An in-out parameter, or the `self` of a body that mutates a structure.
     InOut(Node),
 }
 
-/// A function, an accessor or observer, an initialiser, a closure literal, or the code at the
-/// outermost level.
+/// A function, an accessor or observer, an initialiser or a closure literal.
 #[derive(Drop)]
 pub struct Function {
     pub kind: FunctionKind,
-    /// Its node: for a synthesised initialiser that of its type. The code at the outermost level
-    /// has none.
-    pub node: Option<Node>,
+    /// The node of its declaration or literal: for a synthesised initialiser that of its type.
+    pub node: Node,
     /// The structure or class of which it is a member or an initialiser.
     pub owner: Option<Ty>,
     pub parameters: Items<Parameter>,
@@ -88,8 +89,8 @@ pub struct Function {
 /// A written initialiser. No text gives one yet.
 #[derive(Clone, Copy, Debug, PartialEq, Eq)]
 pub struct WrittenInitialiser {
-    /// The number of its function.
-    pub function: u32,
+    /// The node of its function.
+    pub function: Node,
     /// How many statements of its body come before each stored property without a default has been
     /// stored, with the statement that stores the last of them.
     pub storing: u32,
@@ -118,13 +119,11 @@ pub struct Property {
 #[derive(Drop)]
 pub struct TypeDeclaration {
     pub node: Node,
-    /// The number of the function of its synthesised initialiser.
-    pub initialiser: u32,
     pub stored: Items<Property>,
 }
 
-/// A program whose names and types are settled. Globals, types and functions are told by their
-/// numbers in these lists.
+/// A program whose names and types are settled. Globals and types are told by their numbers in
+/// these lists, and functions and locals by their nodes.
 #[derive(Drop)]
 pub struct Typed {
     pub types: Types,
@@ -134,11 +133,13 @@ pub struct Typed {
     pub classes: Items<TypeDeclaration>,
     /// The stored globals in the order of the text.
     pub globals: Items<Global>,
-    /// The code at the outermost level, and then the functions in the order of their nodes.
+    /// The functions in the order of their nodes.
     pub functions: Items<Function>,
+    /// The code at the outermost level.
+    pub top: Block,
     pub initialisers: Items<WrittenInitialiser>,
-    /// How many locals there are.
-    pub locals: u32,
+    /// The `var`s of blocks, in the order of their nodes.
+    pub locals: Items<Node>,
     /// What the text literals stand for: bytes in UTF-8.
     pub texts: Vec<Vec<u8>>,
     /// The names, each once.
@@ -147,12 +148,56 @@ pub struct Typed {
     pub lines: Vec<u32>,
     /// For each node, the place where its faults stand.
     pub places: Vec<u32>,
+
+    pub ghost in_order: { RiseByNode functions },
+}
+
+impl Typed {
+    /// The function with this node, or `None` where there is none.
+    pub fn function(&self, node: Node) -> Option<&Function>
+        ensures { option_copied result ≡ function_at self.now.functions node }
+    {
+        match self.place_of(node) {
+            Ok(at) => self.functions.get(at),
+            Err(_) => None,
+        }
+    }
+
+    /// Where the function with this node stands, or an error where there is none.
+    fn place_of(&self, node: Node) -> Result<usize, usize>
+        ensures { MatchResult result (λ at. slice_get self.now.functions at ≡ function_at self.now.functions node) (λ _. None ≡ function_at self.now.functions node) }
+    {
+        self.functions
+            .as_slice()
+            .binary_search_by_key(&node.0, |function| function.node.0)
+    }
+
+    /// Whether a property or global with these observers is modified in its place, with a call of
+    /// `didSet` behind. It is otherwise modified in a temporary, from which it is then set.
+    pub fn is_in_place(&self, observers: Observers) -> bool
+        ensures { IsTrue result ↔ IsInPlace self.now.functions observers }
+    {
+        observers.will_set.is_none()
+            && match observers.did_set {
+                Some(node) => self.takes_nothing(node),
+                None => true,
+            }
+    }
+
+    fn takes_nothing(&self, node: Node) -> bool
+        ensures { IsTrue result ↔ TakesNothing self.now.functions node }
+    {
+        match self.function(node) {
+            Some(function) => function.parameters.is_empty(),
+            None => false,
+        }
+    }
 }
 
 /// How the locals of a program are stored.
 #[derive(Drop)]
 pub struct Kinds {
-    /// For each local, by its number, whether it stands in a box, since a closure that may be kept
-    /// mentions it.
+    /// For each of the locals of the program, in their order, whether it stands in a box, since a
+    /// closure that may be kept mentions it.
     pub boxed: Vec<bool>,
 }

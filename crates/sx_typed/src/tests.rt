@@ -1,8 +1,13 @@
-// Accesses that conflict and that don't, and observers.
+// Accesses that conflict and that don't, functions by their nodes, and observers.
 
-use crate::{Access, Observers, Root, conflict};
+ghost use Rattle.std.specs.Prelude.{◌≡◌, ◌<◌, IfOk};
+ghost use Rattle.sx_typed.specs.Functions.{RiseByNode};
+
+use crate::{Access, Function, FunctionKind, Marker, Observers, Parameter, Root, Typed, conflict};
 use sqlite_items::Items;
 use std::alloc::{AllocError, Global};
+use sx_span::Node;
+use sx_types::{FunctionTypes, Ty, Types};
 
 fn access(alloc: Global, root: Root, field: u32, modifies: bool) -> Result<Access, AllocError> {
     let mut fields = Items::new(alloc);
@@ -55,14 +60,108 @@ fn reads_and_other_variables_are_no_conflict(rt: HostRuntime) {
     );
 }
 
+fn did_set(alloc: Global, node: Node, parameters: Items<Parameter>) -> Function
+    ensures { result.node ≡ node }
+{
+    Function {
+        kind: FunctionKind::DidSet,
+        node,
+        owner: None,
+        parameters,
+        result: Ty::Void,
+        body: Items::new(alloc),
+        mentions: Items::new(alloc),
+    }
+}
+
+fn old_value(alloc: Global, node: Node) -> Result<Items<Parameter>, AllocError> {
+    let mut parameters = Items::new(alloc);
+    parameters.push(Parameter {
+        node,
+        name: None,
+        marker: Marker::Plain,
+        ty: Ty::Int,
+    })?;
+    Ok(parameters)
+}
+
+#[tactic(auto, using(crate::proofs::Small::two_rise))]
+fn pair(alloc: Global, first: Function, second: Function) -> Result<Items<Function>, AllocError>
+    requires { first.node.0 < second.node.0 }
+    ensures { IfOk result RiseByNode }
+{
+    let mut functions = Items::new(alloc);
+    functions.push(first)?;
+    functions.push(second)?;
+    Ok(functions)
+}
+
+#[tactic(auto, using(crate::proofs::Small::none_counted))]
+fn no_types(alloc: Global) -> Types {
+    Types {
+        structures: Items::new(alloc),
+        classes: Items::new(alloc),
+        functions: FunctionTypes::new(alloc),
+    }
+}
+
+fn program(alloc: Global, functions: Items<Function>) -> Typed
+    requires { RiseByNode functions }
+{
+    Typed {
+        types: no_types(alloc),
+        structures: Items::new(alloc),
+        classes: Items::new(alloc),
+        globals: Items::new(alloc),
+        functions,
+        top: Items::new(alloc),
+        initialisers: Items::new(alloc),
+        locals: Items::new(alloc),
+        texts: Vec::new(alloc),
+        names: Vec::new(alloc),
+        lines: Vec::new(alloc),
+        places: Vec::new(alloc),
+    }
+}
+
+// A `didSet` at node 3, and one at node 8 that is given the old value.
+fn two_observers(alloc: Global) -> Result<Typed, AllocError> {
+    let plain = did_set(alloc, Node(3), Items::new(alloc));
+    let given = did_set(alloc, Node(8), old_value(alloc, Node(8))?);
+    let functions = pair(alloc, plain, given)?;
+    Ok(program(alloc, functions))
+}
+
+fn has(typed: &Typed, node: Node) -> bool {
+    match typed.function(node) {
+        Some(function) => function.node == node,
+        None => false,
+    }
+}
+
 #[test]
-fn a_plain_did_set_leaves_a_property_in_place(rt: HostRuntime) {
+fn functions_are_told_by_their_nodes(rt: HostRuntime) -> Result<(), AllocError> {
+    let typed = two_observers(rt.alloc())?;
+    assert!(rt; has(&typed, Node(3)) && has(&typed, Node(8)));
+    for node in [0, 4, 9] {
+        assert!(rt; typed.function(Node(node)).is_none());
+    }
+    Ok(())
+}
+
+#[test]
+fn a_did_set_without_the_old_value_is_in_place(rt: HostRuntime) -> Result<(), AllocError> {
+    let typed = two_observers(rt.alloc())?;
     let mut observers = Observers {
         will_set: None,
-        did_set: Some(1),
-        takes_old: false,
+        did_set: Some(Node(3)),
     };
-    assert!(rt; observers.are_in_place());
-    observers.takes_old = true;
-    assert!(rt; !observers.are_in_place());
+    assert!(rt; typed.is_in_place(observers));
+    observers.did_set = Some(Node(8));
+    assert!(rt; !typed.is_in_place(observers));
+    observers.did_set = None;
+    assert!(rt; typed.is_in_place(observers));
+    observers.will_set = Some(Node(3));
+    assert!(rt; !typed.is_in_place(observers));
+    Ok(())
 }
