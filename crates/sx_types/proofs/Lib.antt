@@ -1,4 +1,5 @@
+mod Alike
 mod Counted
 mod Gained
-mod Nesting
+pub mod Nesting
 mod Same

@@ -50,7 +50,7 @@ module _ (structures : List Structure) where
   abbrev within : ℕ → ℕ → Option ℕ
   within = structure_within structures
 
-  deeper : (depth k : ℕ) → Told (within depth k) (within (suc depth) k)
+  pub deeper : (depth k : ℕ) → Told (within depth k) (within (suc depth) k)
   unfolding structure_within
   deeper zero k n e = cc
   deeper (suc depth) k n e = stored_told (within depth) (within (suc depth)) (deeper depth) (slice_get structures k) n e

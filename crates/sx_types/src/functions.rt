@@ -2,6 +2,7 @@
 
 ghost use Rattle.std.specs.Prelude.{◌≡◌, ◌^◌, ◌<◌, [], length, slice_get, Some, IfOk, OnOk};
 ghost use Rattle.sx_types.specs.Functions.{Gains, IsOnce};
+ghost use Rattle.sx_types.specs.Same.{number_of};
 
 use crate::types::FunctionType;
 use indexmap::IndexSet;
@@ -16,12 +17,14 @@ pub struct FunctionTypes {
 }
 
 impl Model for FunctionTypes {
-    ghost use Rattle.std.specs.Prelude.{List};
+    ghost use Rattle.std.specs.Prelude.{List, length, ◌≤◌, ◌^◌};
     ghost use Rattle.sx_types.specs.declared.types.FunctionType.{FunctionType};
 
     ghost Value = { List FunctionType };
 
     ghost view = { λ types. types.seen.keys };
+
+    ghost invariant = { λ types. length types.seen.keys ≤ 2 ^ 32 };
 }
 
 impl FunctionTypes {
@@ -40,6 +43,16 @@ impl FunctionTypes {
         ensures once { IsOnce self.now }
     {
         self.seen.as_slice()
+    }
+
+    /// The number of the function type, or `None` where it isn't among them.
+    pub fn find(&self, function: &FunctionType) -> Option<u32>
+        ensures { result ≡ number_of self.now function.now }
+    {
+        match self.seen.get_index_of(function) {
+            Some(number) => Some(number as u32),
+            None => None,
+        }
     }
 
     /// The number of the function type, which goes last where it is new.

@@ -1,0 +1,7 @@
+pub mod Circles
+mod Lists
+mod Measures
+mod Parts
+mod Searches
+mod Sums
+mod Walks

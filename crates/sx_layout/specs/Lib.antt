@@ -1,0 +1,4 @@
+pub mod Holding
+pub mod Measured
+pub mod Searching
+pub mod Walking

@@ -1,0 +1,11 @@
+//! How wide structures are, and which of them hold themselves.
+#![tactic(auto)]
+
+mod holding;
+mod measuring;
+#[cfg(test)]
+mod tests;
+mod walking;
+
+pub use holding::holding_themselves;
+pub use measuring::{measure, width};
