@@ -1,0 +1,5 @@
+pub mod Verdict
+pub mod Walks
+pub mod Paths
+pub mod Names
+pub mod WrittenTypes
