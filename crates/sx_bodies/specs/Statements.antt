@@ -1,6 +1,6 @@
 -- Statements and bodies (The Swift Programming Language, "Statements", "Functions"; SE-0255 for bodies of one expression).
-use Rattle.std.specs.Prelude.{ℕ, Bool, true, false, not, ◌&&◌, ◌||◌, ◌==◌, nat_eq, List, [], ◌∷◌, ◌++◌, drop, length, Option, Some, None, is_none, cond}
-use Rattle.indexmap.specs.IndexMap.{get}
+use Rattle.std.specs.Prelude.{ℕ, Bool, true, false, not, ◌&&◌, ◌||◌, ◌==◌, List, [], ◌∷◌, ◌++◌, drop, length, Option, Some, None, is_none, cond}
+use Rattle.sx_scope.specs.Tables.{entry}
 use Rattle.std.specs.List.{list_any}
 use Rattle.sx_span.specs.declared.places.Node.{Node}
 use Rattle.sx_tree.specs.declared.operators.Assignment.{Assignment}
@@ -109,7 +109,7 @@ reserved_by (Some symbol.Print) = true
 reserved_by s = false
 
 abbrev pub is_reserved : Declarations → ℕ → Bool
-is_reserved d x = reserved_by (get nat_eq d.symbols x)
+is_reserved d x = reserved_by (entry d.symbols x)
 
 -- whether one of the locals from a number on has the name
 abbrev pub is_taken : ℕ → ℕ → Walk → Bool

@@ -22,10 +22,11 @@ pub fn is_fresh(declarations: &Declarations, walk: &Walk, from: usize, name: u32
     !(is_reserved(declarations, name) || is_taken(walk.locals.as_slice(), from, name))
 }
 
-fn is_reserved(declarations: &Declarations, name: u32) -> bool
+/// Whether a name has a meaning of its own, which no declaration can take.
+pub fn is_reserved(declarations: &Declarations, name: u32) -> bool
     ensures { result ≡ statements.is_reserved declarations.now name }
 {
-    match declarations.symbols.get(&name) {
+    match declarations.symbols.get(name) {
         Some(Symbol::BasicType | Symbol::Print) => true,
         _ => false,
     }

@@ -49,7 +49,8 @@ pub fn are_mentions_narrow(types: &Types, mut mentions: &[Mention]) -> bool
     true
 }
 
-fn mention_words(types: &Types, mention: Mention) -> u32
+/// How many words a closure literal keeps of what it mentions.
+pub fn mention_words(types: &Types, mention: Mention) -> u32
     ensures { result ≡ literals.mention_words types.now mention }
 {
     match mention {
@@ -59,7 +60,7 @@ fn mention_words(types: &Types, mention: Mention) -> u32
 }
 
 /// How many words a value of the type takes, and none where that can't be told.
-fn words_in(types: &Types, ty: Ty) -> u32
+pub fn words_in(types: &Types, ty: Ty) -> u32
     ensures { result ≡ literals.words_in types.now ty }
 {
     match ty {

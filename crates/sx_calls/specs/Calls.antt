@@ -34,7 +34,7 @@ use Rattle.sx_scope.specs.declared.walk.Use.{Use}
 use Rattle.sx_scope.specs.declared.walk.Use.TheVariants as uses
 use Rattle.sx_scope.specs.Verdict.{Verdict, typed, untold, depends, Judging, ◌▷◌, both, both_by, need, fault, loosely}
 use Rattle.sx_scope.specs.Walks.{numbered}
-use Rattle.sx_scope.specs.Names.{agrees, is_function, declared_type, function}
+use Rattle.sx_scope.specs.Names.{agrees, is_function, declared_type, function, known_in}
 use Rattle.sx_scope.specs.Paths.{an_expr, path_of, modifiable, subscript_of}
 use Rattle.sx_calls.specs.declared.passed.Passed.{Passed}
 use Rattle.sx_calls.specs.declared.passed.Pairing.{Pairing}
@@ -240,13 +240,13 @@ property_slot k q known.Circular = slots.Failing kind.NeedsType
 property_slot k q known.Untold = slots.Unknown
 property_slot k q known.Failed = slots.Unknown
 
-abbrev pub slot_at : ℕ → Option StoredProperty → Slot
-slot_at k None = slots.Failing kind.ArgumentLabel
-slot_at k (Some q) = property_slot k q q.known
+abbrev pub slot_at : Declarations → ℕ → Option StoredProperty → Slot
+slot_at d k None = slots.Failing kind.ArgumentLabel
+slot_at d k (Some q) = property_slot k q (known_in d q.ty)
 
-abbrev pub slot_for : ℕ → List StoredProperty → Option ℕ → Slot
-slot_for i qs None = slots.Failing kind.ArgumentLabel
-slot_for i qs (Some k) = slot_at (k + i) (slice_get qs k)
+abbrev pub slot_for : Declarations → ℕ → List StoredProperty → Option ℕ → Slot
+slot_for d i qs None = slots.Failing kind.ArgumentLabel
+slot_for d i qs (Some k) = slot_at d (k + i) (slice_get qs k)
 
 -- no property without a default is left out
 abbrev pub fits : List StoredProperty → Option ℕ → Bool
@@ -265,10 +265,10 @@ number_behind i (Some k) = suc k + i
 abbrev pub with_slot : Slot → Bool → Pairing → Pairing
 with_slot s fits p = record { slots = s ∷ p.slots; counted = fits && p.counted }
 
-abbrev pub given_from : ℕ → List StoredProperty → List Shape → Pairing
-given_from i qs [] = record { slots = []; counted = not (lacks_one qs) }
-given_from i qs (a ∷ as_) =
-    with_slot (slot_for i qs (left_out a qs)) (fits qs (left_out a qs)) (given_from (number_behind i (left_out a qs)) (coming qs (left_out a qs)) as_)
+abbrev pub given_from : Declarations → ℕ → List StoredProperty → List Shape → Pairing
+given_from d i qs [] = record { slots = []; counted = not (lacks_one qs) }
+given_from d i qs (a ∷ as_) =
+    with_slot (slot_for d i qs (left_out a qs)) (fits qs (left_out a qs)) (given_from d (number_behind i (left_out a qs)) (coming qs (left_out a qs)) as_)
 
 abbrev pub stored_in : Ty → DeclaredType → List StoredProperty
 stored_in (ty.Struct k) s = s.stored
@@ -278,15 +278,23 @@ stored_in t s = []
 abbrev pub as_many : List StoredProperty → ℕ → Bool
 as_many qs n = nat_le (count_by is_needed qs) n && nat_le n (length qs)
 
-abbrev pub has_failed : DeclaredType → Bool
-has_failed s = s.failed || s.lacks_property
+abbrev pub is_failed : Known → Bool
+is_failed known.Failed = true
+is_failed k = false
 
-abbrev pub given_to : List StoredProperty → List Shape → Pairing
-given_to qs as_ = cond (as_many qs (length as_)) (given_from 0 qs as_) (unpaired as_)
+abbrev pub property_failed : Declarations → StoredProperty → Bool
+property_failed d q = is_failed (known_in d q.ty)
 
-abbrev pub given_to_type : Ty → List Shape → Option DeclaredType → Pairing
-given_to_type t as_ None = unpaired as_
-given_to_type t as_ (Some s) = cond (has_failed s) (unpaired as_) (given_to (stored_in t s) as_)
+-- it hasn't failed itself, nor has a stored property
+abbrev pub has_failed : Declarations → DeclaredType → Bool
+has_failed d s = s.failed || s.lacks_property || list_any (property_failed d) s.stored
+
+abbrev pub given_to : Declarations → List StoredProperty → List Shape → Pairing
+given_to d qs as_ = cond (as_many qs (length as_)) (given_from d 0 qs as_) (unpaired as_)
+
+abbrev pub given_to_type : Declarations → Ty → List Shape → Option DeclaredType → Pairing
+given_to_type d t as_ None = unpaired as_
+given_to_type d t as_ (Some s) = cond (has_failed d s) (unpaired as_) (given_to d (stored_in t s) as_)
 
 abbrev pub print_pairing : List Shape → Pairing
 print_pairing (a ∷ []) = record { slots = slots.Printed ∷ []; counted = true }
@@ -342,9 +350,9 @@ abbrev pub value_called : Asked → Node → ℕ → Bool → Expr → List Argu
 value_called q n site counted e as_ None = depends
 value_called q n site counted e as_ (Some f) = call_expr q n site counted f.result (forms.CallValue e as_)
 
-abbrev pub initialised : Asked → Node → ℕ → Bool → Ty → List Given → Option DeclaredType → Judging Expr
-initialised q n site counted t gs None = depends
-initialised q n site counted t gs (Some s) = cond (has_failed s) depends (call_expr q n site counted t (forms.Initialise t gs))
+abbrev pub initialised : Declarations → Asked → Node → ℕ → Bool → Ty → List Given → Option DeclaredType → Judging Expr
+initialised d q n site counted t gs None = depends
+initialised d q n site counted t gs (Some s) = cond (has_failed d s) depends (call_expr q n site counted t (forms.Initialise t gs))
 
 abbrev pub print_called : Asked → Node → ℕ → Bool → Option Expr → Judging Expr
 print_called q n site counted None = need (agrees q ty.Void) kind.Mismatch n (fault kind.ArgumentCount n)
@@ -372,14 +380,14 @@ module _ (d : Declarations) where
   pairing (Some (callee.Function k)) as_ = for_signature (function d k) as_
   pairing (Some (callee.Method k base)) as_ = for_signature (function d k) as_
   pairing (Some (callee.Value e f)) as_ = for_function (slice_get d.types.functions f) as_
-  pairing (Some (callee.Initialiser t)) as_ = given_to_type t as_ (declared_type d t)
+  pairing (Some (callee.Initialiser t)) as_ = given_to_type d t as_ (declared_type d t)
   pairing (Some callee.Print) as_ = print_pairing as_
 
   abbrev pub called : Asked → Node → ℕ → Bool → Callee × Passed → Judging Expr
   called q n site counted (callee.Function k, a) = function_called q n site counted a.arguments (function d k)
   called q n site counted (callee.Method k base, a) = method_called q n site counted base a.arguments (function d k)
   called q n site counted (callee.Value e f, a) = value_called q n site counted e a.arguments (slice_get d.types.functions f)
-  called q n site counted (callee.Initialiser t, a) = initialised q n site counted t a.given (declared_type d t)
+  called q n site counted (callee.Initialiser t, a) = initialised d q n site counted t a.given (declared_type d t)
   called q n site counted (callee.Print, a) = print_called q n site counted a.printed
 
   abbrev pub shapes : List JudgedArgument → List Shape

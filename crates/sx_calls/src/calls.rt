@@ -6,6 +6,7 @@ ghost use Rattle.sx_scope.specs.Verdict.{Answers, typed};
 ghost use Rattle.sx_typed.specs.declared.code.Form.TheVariants as forms;
 
 use crate::conditions::{fails, unless_broken};
+use crate::pairing::has_failed;
 use crate::passed::Passed;
 use sqlite_items::{Boxed, Items};
 use std::alloc::{AllocError, Global};
@@ -50,7 +51,17 @@ pub fn called(
         }
         Callee::Initialiser(ty) => {
             let declared = declared_type(declarations, ty);
-            initialised(walk, asked, node, site, counted, ty, passed, declared)
+            initialised(
+                declarations,
+                walk,
+                asked,
+                node,
+                site,
+                counted,
+                ty,
+                passed,
+                declared,
+            )
         }
         Callee::Print => print_called(alloc, walk, asked, node, site, counted, passed),
     }
@@ -233,6 +244,7 @@ fn value_form(alloc: Global, value: Expr, arguments: Items<Argument>) -> Result<
 }
 
 fn initialised(
+    declarations: &Declarations,
     walk: &Walk,
     asked: Asked,
     node: Node,
@@ -242,12 +254,12 @@ fn initialised(
     passed: Passed,
     declared: Option<&DeclaredType>,
 ) -> Judged
-    ensures { Answers result walk.now (calls.initialised asked node site counted ty passed.given (option_copied declared.entry) walk.now) }
+    ensures { Answers result walk.now (calls.initialised declarations.now asked node site counted ty passed.given (option_copied declared.entry) walk.now) }
 {
     let Some(declared) = declared else {
         return Ok(Found::Depends);
     };
-    if declared.failed || declared.lacks_property {
+    if has_failed(declarations, declared) {
         return Ok(Found::Depends);
     }
     call_expr(

@@ -1,5 +1,6 @@
 // What the arguments of a call are for.
 
+ghost use Rattle.std.specs.List.{list_any};
 ghost use Rattle.std.specs.Prelude.{◌≡◌, ◌+◌, ◌<◌, IfOk, IfSome, length, map, option_copied, position};
 ghost use Rattle.sx_calls.specs.Calls as calls;
 ghost use Rattle.sx_scope.specs.Names as names;
@@ -10,7 +11,7 @@ use sqlite_items::Items;
 use std::alloc::{AllocError, Global};
 use sx_scope::{
     Callee, Declarations, DeclaredType, Found, Known, Signature, SignatureParameter,
-    StoredProperty, TypeKind, declared_type,
+    StoredProperty, TypeKind, declared_type, known_of,
 };
 use sx_typed::Marker;
 use sx_types::{FunctionParameter, FunctionType, Ty};
@@ -55,6 +56,7 @@ fn pair_with(
         }
         Callee::Initialiser(ty) => given_to_type(
             alloc,
+            declarations,
             *ty,
             shapes,
             declared_type(declarations, *ty),
@@ -196,19 +198,20 @@ fn for_print(alloc: Global, shapes: &[Shape]) -> Result<Pairing, AllocError>
 /// The arguments of the initialiser of a structure or class.
 fn given_to_type(
     alloc: Global,
+    declarations: &Declarations,
     ty: Ty,
     shapes: &[Shape],
     declared: Option<&DeclaredType>,
 ) -> Result<Pairing, AllocError>
-    ensures { IfOk result (λ p. p ≡ calls.given_to_type ty shapes.now (option_copied declared.entry)) }
+    ensures { IfOk result (λ p. p ≡ calls.given_to_type declarations.now ty shapes.now (option_copied declared.entry)) }
 {
     let Some(declared) = declared else {
         return unpaired(alloc, shapes);
     };
-    if declared.failed || declared.lacks_property {
+    if has_failed(declarations, declared) {
         return unpaired(alloc, shapes);
     }
-    given_to(alloc, stored_in(ty, declared), shapes)
+    given_to(alloc, declarations, stored_in(ty, declared), shapes)
 }
 
 fn stored_in(ty: Ty, declared: &DeclaredType) -> &[StoredProperty]
@@ -220,16 +223,41 @@ fn stored_in(ty: Ty, declared: &DeclaredType) -> &[StoredProperty]
     }
 }
 
+/// Whether a structure or class has failed itself, or one of its stored properties has.
+pub(crate) fn has_failed(declarations: &Declarations, declared: &DeclaredType) -> bool
+    ensures { result ≡ calls.has_failed declarations.now declared.now }
+{
+    declared.failed
+        || declared.lacks_property
+        || lacks_known(declarations, declared.stored.as_slice())
+}
+
+/// Whether one of these properties has failed.
+fn lacks_known(declarations: &Declarations, stored: &[StoredProperty]) -> bool
+    ensures { result ≡ list_any (calls.property_failed declarations.now) stored.now }
+{
+    stored
+        .iter()
+        .any(|property| property_failed(declarations, property))
+}
+
+fn property_failed(declarations: &Declarations, property: &StoredProperty) -> bool
+    ensures { result ≡ calls.property_failed declarations.now property.now }
+{
+    matches!(known_of(declarations, property.ty), Known::Failed)
+}
+
 /// The arguments of an initialiser with these properties.
 fn given_to(
     alloc: Global,
+    declarations: &Declarations,
     stored: &[StoredProperty],
     shapes: &[Shape],
 ) -> Result<Pairing, AllocError>
-    ensures { IfOk result (λ p. p ≡ calls.given_to stored.now shapes.now) }
+    ensures { IfOk result (λ p. p ≡ calls.given_to declarations.now stored.now shapes.now) }
 {
     if takes(stored, shapes.len()) {
-        given_in_order(alloc, stored, shapes)
+        given_in_order(alloc, declarations, stored, shapes)
     } else {
         unpaired(alloc, shapes)
     }
@@ -257,10 +285,11 @@ fn lacks_one(stored: &[StoredProperty]) -> bool
 /// Each argument for the next property with its label.
 fn given_in_order(
     alloc: Global,
+    declarations: &Declarations,
     stored: &[StoredProperty],
     shapes: &[Shape],
 ) -> Result<Pairing, AllocError>
-    ensures { IfOk result (λ p. p ≡ calls.given_from 0 stored.now shapes.now) }
+    ensures { IfOk result (λ p. p ≡ calls.given_from declarations.now 0 stored.now shapes.now) }
 {
     let mut slots = Vec::new(alloc);
     let mut counted = true;
@@ -268,7 +297,7 @@ fn given_in_order(
     let mut coming = stored;
     'turns: for shape in shapes {
         let count = left_out(*shape, coming);
-        let slot = slot_for(number, coming, count)?;
+        let slot = slot_for(declarations, number, coming, count)?;
         slots.push(slot)?;
         let fitting = fits(coming, count);
         counted = counted && fitting;
@@ -349,26 +378,27 @@ fn ends(label: u32, property: &StoredProperty) -> bool
 /// What an argument is for, where the properties from this number on may still come, and so many
 /// of them are left out. Numbers that run out count as memory that does.
 fn slot_for(
+    declarations: &Declarations,
     number: u32,
     coming: &[StoredProperty],
     left_out: Option<usize>,
 ) -> Result<Slot, AllocError>
-    ensures { IfOk result (λ s. s ≡ calls.slot_for number coming.now left_out) }
+    ensures { IfOk result (λ s. s ≡ calls.slot_for declarations.now number coming.now left_out) }
 {
     let Some(count) = left_out else {
         return Ok(Slot::Failing(TypeKind::ArgumentLabel));
     };
     let number = sum(number, count)?;
     match coming.get(count) {
-        Some(property) => Ok(property_slot(number, property)),
+        Some(property) => Ok(property_slot(declarations, number, property)),
         None => Ok(Slot::Failing(TypeKind::ArgumentLabel)),
     }
 }
 
-fn property_slot(number: u32, property: &StoredProperty) -> Slot
-    ensures { result ≡ calls.property_slot number property.now property.now.known }
+fn property_slot(declarations: &Declarations, number: u32, property: &StoredProperty) -> Slot
+    ensures { result ≡ calls.property_slot number property.now (names.known_in declarations.now property.now.ty) }
 {
-    match property.known {
+    match known_of(declarations, property.ty) {
         Known::Type(ty) => Slot::Property(
             number,
             Wanted {

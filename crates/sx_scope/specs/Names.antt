@@ -1,7 +1,7 @@
 -- What names mean: the locals from inside out, then the members of the enclosing type, then what is declared at the outermost
 -- level (The Swift Programming Language, "Declarations", scope).
-use Rattle.std.specs.Prelude.{ℕ, suc, ◌+◌, Bool, true, false, not, ◌&&◌, ◌||◌, ◌==◌, nat_eq, nat_lt, List, [], ◌∷◌, Option, Some, None, slice_get, cond}
-use Rattle.indexmap.specs.IndexMap.{get}
+use Rattle.std.specs.Prelude.{ℕ, suc, ◌+◌, Bool, true, false, not, ◌&&◌, ◌||◌, ◌==◌, nat_lt, List, [], ◌∷◌, Option, Some, None, slice_get, cond}
+use Rattle.sx_scope.specs.Tables.{entry}
 use Rattle.sx_span.specs.declared.places.Node.{Node}
 pub use Rattle.sx_types.specs.Same.{same}
 use Rattle.sx_types.specs.declared.types.Ty.{Ty}
@@ -23,6 +23,8 @@ use Rattle.sx_scope.specs.declared.declarations.Signature.{Signature}
 use Rattle.sx_scope.specs.declared.declarations.Symbol.{Symbol}
 use Rattle.sx_scope.specs.declared.declarations.Symbol.TheVariants as symbol
 use Rattle.sx_scope.specs.declared.declarations.Variable.{Variable}
+use Rattle.sx_scope.specs.declared.declarations.VariableType.{VariableType}
+use Rattle.sx_scope.specs.declared.declarations.VariableType.TheVariants as source
 use Rattle.sx_scope.specs.declared.walk.Asked.{Asked}
 use Rattle.sx_scope.specs.declared.walk.Asked.TheVariants as asked
 use Rattle.sx_scope.specs.declared.walk.Callee.{Callee}
@@ -115,8 +117,20 @@ abbrev pub comes_late_for : Node → Option Node → Bool
 comes_late_for n None = false
 comes_late_for n (Some g) = not (nat_lt n.0 g.0)
 
+abbrev pub is_given : VariableType → Bool
+is_given (source.Written k) = false
+is_given (source.Given n) = true
+
 abbrev pub comes_late : Place → Variable → Bool
-comes_late p v = v.given && comes_late_for v.node p.giving
+comes_late p v = is_given v.ty && comes_late_for v.node p.giving
+
+abbrev pub given_known : Option Known → Known
+given_known None = known.Untold
+given_known (Some k) = k
+
+abbrev pub known_in : Declarations → VariableType → Known
+known_in d (source.Written k) = k
+known_in d (source.Given n) = given_known (slice_get d.given n)
 
 abbrev pub known_type : Asked → Node → Known → Judging Ty
 known_type q n (known.Type t) = need (agrees q t) kind.Mismatch n (typed t)
@@ -124,21 +138,21 @@ known_type q n known.Failed = depends
 known_type q n known.Untold = untold
 known_type q n known.Circular = depends
 
-abbrev pub variable_type : Place → Asked → Node → Variable → Judging Ty
-variable_type p q n v = need (not (comes_late p v)) kind.NeedsType n (known_type q n v.known)
+abbrev pub variable_type : Declarations → Place → Asked → Node → Variable → Judging Ty
+variable_type d p q n v = need (not (comes_late p v)) kind.NeedsType n (known_type q n (known_in d v.ty))
 
-abbrev pub variable_value : Place → Asked → Node → Variable → (Ty → Expr) → Judging Expr
-variable_value p q n v expr w = variable_type p q n v w ▷ (λ t. typed (expr t))
+abbrev pub variable_value : Declarations → Place → Asked → Node → Variable → (Ty → Expr) → Judging Expr
+variable_value d p q n v expr w = variable_type d p q n v w ▷ (λ t. typed (expr t))
 
 -- in its own observers a property or global is plainly stored
 abbrev pub is_plain : Place → Variable → Bool
 is_plain p v = same_node p.observed v.node
 
-abbrev pub property_value : Place → Asked → Node → ℕ → Bool → Expr → Variable → Judging Expr
-property_value p q n site plain base v = variable_value p q n v (λ t. property_of n site t plain base v.storage)
+abbrev pub property_value : Declarations → Place → Asked → Node → ℕ → Bool → Expr → Variable → Judging Expr
+property_value d p q n site plain base v = variable_value d p q n v (λ t. property_of n site t plain base v.storage)
 
-abbrev pub global_variable : Place → Asked → Node → ℕ → Variable → Judging Expr
-global_variable p q n site v = variable_value p q n v (λ t. global_of n site t (is_plain p v) v.storage)
+abbrev pub global_variable : Declarations → Place → Asked → Node → ℕ → Variable → Judging Expr
+global_variable d p q n site v = variable_value d p q n v (λ t. global_of n site t (is_plain p v) v.storage)
 
 -- ---- a function as a value, by the node of its declaration and the number of its type
 abbrev pub function_typed : Asked → Node → ℕ → Node → Option ℕ → Judging Expr
@@ -181,7 +195,7 @@ module _ (d : Declarations) where
 
   abbrev pub member_by : Option DeclaredType → ℕ → Option Member
   member_by None x = None
-  member_by (Some s) x = get nat_eq s.members x
+  member_by (Some s) x = entry s.members x
 
   abbrev pub member : Ty → ℕ → Option Member
   member t x = member_by (declared_type t) x
@@ -238,14 +252,14 @@ module _ (d : Declarations) where
   symbol_value p q n site symbol.Print = fault kind.NotAValue n
   symbol_value p q n site (symbol.Function k) = function_value q n site (function k)
   symbol_value p q n site (symbol.Type t) = cond (type_failed t) depends (fault kind.NotAValue n)
-  symbol_value p q n site (symbol.Variable v) = global_variable p q n site v
+  symbol_value p q n site (symbol.Variable v) = global_variable d p q n site v
 
   abbrev pub global_value : Place → Asked → Node → ℕ → Option Symbol → Judging Expr
   global_value p q n site None = fault kind.UnknownName n
   global_value p q n site (Some s) = symbol_value p q n site s
 
   abbrev pub implied_property : Place → Asked → Node → ℕ → Variable → Expr → Judging Expr
-  implied_property p q n site v this = property_value p q n site (is_plain p v) this v
+  implied_property p q n site v this = property_value d p q n site (is_plain p v) this v
 
   abbrev pub implied_member : Place → Asked → Node → ℕ → Member → Judging Expr
   implied_member p q n site (members.Property v) w = implied_self p n site w ▷ implied_property p q n site v
@@ -253,7 +267,7 @@ module _ (d : Declarations) where
 
   abbrev pub outer_value : Place → Asked → Node → ℕ → ℕ → Option Member → Judging Expr
   outer_value p q n site x (Some m) = implied_member p q n site m
-  outer_value p q n site x None = global_value p q n site (get nat_eq d.symbols x)
+  outer_value p q n site x None = global_value p q n site (entry d.symbols x)
 
   abbrev pub name_by : Place → Asked → Use → Node → ℕ → ℕ → Option (ℕ × Local) → Judging Expr
   name_by p q u n site x (Some l) = local_value p q u n site l
@@ -265,7 +279,7 @@ module _ (d : Declarations) where
   -- ---- a member of a value; `written_self` tells that the value is the word `self`
   abbrev pub member_found : Place → Asked → Node → ℕ → Bool → Expr → Option Member → Judging Expr
   member_found p q n site written_self base None = fault kind.UnknownName n
-  member_found p q n site written_self base (Some (members.Property v)) = property_value p q n site (written_self && is_plain p v) base v
+  member_found p q n site written_self base (Some (members.Property v)) = property_value d p q n site (written_self && is_plain p v) base v
   member_found p q n site written_self base (Some (members.Method k)) = method_value n (function k)
 
   abbrev pub member_value : Place → Asked → Node → ℕ → Bool → ℕ → Expr → Judging Expr
@@ -285,7 +299,7 @@ module _ (d : Declarations) where
   called_symbol p n site symbol.Print w = typed callee.Print w
   called_symbol p n site (symbol.Function k) w = called_function k (function k) w
   called_symbol p n site (symbol.Type t) w = typed (callee.Initialiser t) w
-  called_symbol p n site (symbol.Variable v) w = global_variable p asked.Nothing n site v w ▷ callable n
+  called_symbol p n site (symbol.Variable v) w = global_variable d p asked.Nothing n site v w ▷ callable n
 
   abbrev pub called_global : Place → Node → ℕ → Option Symbol → Judging Callee
   called_global p n site None = fault kind.UnknownName n
@@ -297,7 +311,7 @@ module _ (d : Declarations) where
 
   abbrev pub called_outer : Place → Node → ℕ → ℕ → Option Member → Judging Callee
   called_outer p n site x (Some m) = called_implied p n site m
-  called_outer p n site x None = called_global p n site (get nat_eq d.symbols x)
+  called_outer p n site x None = called_global p n site (entry d.symbols x)
 
   abbrev pub called_by : Place → Node → ℕ → ℕ → Option (ℕ × Local) → Judging Callee
   called_by p n site x (Some l) w = local_value p asked.Nothing uses.Called n site l w ▷ callable n
@@ -308,7 +322,7 @@ module _ (d : Declarations) where
 
   abbrev pub called_found : Place → Node → ℕ → Bool → Expr → Option Member → Judging Callee
   called_found p n site written_self base None w = fault kind.UnknownName n w
-  called_found p n site written_self base (Some (members.Property v)) w = property_value p asked.Nothing n site (written_self && is_plain p v) base v w ▷ callable n
+  called_found p n site written_self base (Some (members.Property v)) w = property_value d p asked.Nothing n site (written_self && is_plain p v) base v w ▷ callable n
   called_found p n site written_self base (Some (members.Method k)) w = called_method k (function k) base w
 
   abbrev pub called_member : Place → Node → ℕ → Bool → ℕ → Expr → Judging Callee

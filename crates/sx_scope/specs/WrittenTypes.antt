@@ -1,6 +1,6 @@
 -- What a written type means (The Swift Programming Language, "Types").
-use Rattle.std.specs.Prelude.{ℕ, Bool, true, false, not, ◌&&◌, ◌||◌, nat_eq, List, [], ◌∷◌, ◌++◌, Option, Some, None, cond}
-use Rattle.indexmap.specs.IndexMap.{get}
+use Rattle.std.specs.Prelude.{ℕ, Bool, true, false, not, ◌&&◌, ◌||◌, List, [], ◌∷◌, ◌++◌, Option, Some, None, cond}
+use Rattle.sx_scope.specs.Tables.{entry}
 use Rattle.sx_span.specs.declared.places.Node.{Node}
 use Rattle.sx_tree.specs.declared.written_types.WrittenType.{WrittenType, fold-WrittenType, WrittenType-F}
 use Rattle.sx_tree.specs.declared.written_types.TypeForm.{TypeForm-F}
@@ -59,7 +59,7 @@ module _ (d : Declarations) where
   named_type n (Some (type_name.Type t)) = cond (type_failed d t) depends (typed t)
 
   abbrev pub type_named : Node → ℕ → Judging Ty
-  type_named n x = named_type n (get nat_eq d.type_names x)
+  type_named n x = named_type n (entry d.type_names x)
 
   abbrev pub function_made : Node → List FunctionParameter × Ty → Judging Ty
   function_made n (ps, r) = need (may_be_parameters ps) kind.Mismatch n (func_by (number_of d.types.functions (function_type ps r)))

@@ -73,7 +73,7 @@ fn called_outer(
     match member_here(declarations, place.members_of, name) {
         Some(member) => called_implied(alloc, declarations, walk, place, node, site, member),
         None => {
-            let symbol = declarations.symbols.get(&name).copied();
+            let symbol = declarations.symbols.get(name);
             called_global(alloc, declarations, walk, place, node, site, symbol)
         }
     }
@@ -191,7 +191,16 @@ fn called_symbol(
         Symbol::Function(number) => called_function(declarations, walk, number),
         Symbol::Type(ty) => Ok(Found::Typed(Callee::Initialiser(ty))),
         Symbol::Variable(variable) => {
-            let value = global_variable(alloc, walk, place, Asked::Nothing, node, site, variable)?;
+            let value = global_variable(
+                alloc,
+                declarations,
+                walk,
+                place,
+                Asked::Nothing,
+                node,
+                site,
+                variable,
+            )?;
             called_value(walk, node, value)
         }
     }
@@ -217,7 +226,16 @@ pub fn called_member(
             let plain = written_self && is_plain(place, variable);
             let asked = Asked::Nothing;
             let value = property_value(
-                alloc, walk, place, asked, node, site, plain, base, variable,
+                alloc,
+                declarations,
+                walk,
+                place,
+                asked,
+                node,
+                site,
+                plain,
+                base,
+                variable,
             )?;
             called_value(walk, node, value)
         }

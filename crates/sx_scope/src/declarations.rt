@@ -1,6 +1,6 @@
 // What is declared outside of bodies.
 
-use indexmap::IndexMap;
+use crate::table::Table;
 use sqlite_items::Items;
 use sx_span::Node;
 use sx_typed::{Accessors, Marker, Observers};
@@ -32,13 +32,21 @@ pub enum Storage {
     Computed(Accessors),
 }
 
+/// What tells the type of a global or a property.
+#[derive(Clone, Copy)]
+pub enum VariableType {
+    /// It is written.
+    Written(Known),
+    /// Its initial value gives it, since none is written: the number of the declaration among those
+    /// that are given their types so.
+    Given(u32),
+}
+
 /// A global or a property.
 #[derive(Clone, Copy)]
 pub struct Variable {
     pub node: Node,
-    /// Whether its initial value gives its type, since none is written.
-    pub given: bool,
-    pub known: Known,
+    pub ty: VariableType,
     pub storage: Storage,
 }
 
@@ -86,7 +94,7 @@ pub enum Member {
 #[derive(Clone, Copy)]
 pub struct StoredProperty {
     pub name: u32,
-    pub known: Known,
+    pub ty: VariableType,
     pub has_default: bool,
 }
 
@@ -96,10 +104,10 @@ pub struct DeclaredType {
     pub node: Node,
     /// Whether its declaration has failed.
     pub failed: bool,
-    /// Whether one of its stored properties has failed.
+    /// Whether one of its stored properties has failed by its name, since another has it.
     pub lacks_property: bool,
     /// The members by their names; of two with one name the first.
-    pub members: IndexMap<u32, Member>,
+    pub members: Table<Member>,
     pub subscript: Option<Subscript>,
     /// The stored properties in the order of the text.
     pub stored: Items<StoredProperty>,
@@ -134,12 +142,14 @@ pub struct Declarations {
     pub nodes: u32,
     pub types: Types,
     /// The types by their names.
-    pub type_names: IndexMap<u32, TypeName>,
+    pub type_names: Table<TypeName>,
     /// The declarations of the outermost level by their names; of two with one name the first.
-    pub symbols: IndexMap<u32, Symbol>,
+    pub symbols: Table<Symbol>,
     /// The structures and classes, in the order of those in `types`.
     pub structures: Items<DeclaredType>,
     pub classes: Items<DeclaredType>,
     /// The functions and methods, by their numbers.
     pub functions: Items<Signature>,
+    /// What is known of the types that initial values give, by the numbers of their declarations.
+    pub given: Items<Known>,
 }

@@ -12,6 +12,7 @@ mod own;
 mod paths;
 mod stack;
 mod stop;
+mod table;
 #[cfg(test)]
 mod tests;
 mod variables;
@@ -22,7 +23,7 @@ pub use agreement::is_agreed;
 pub use callees::{callable, called_member, called_name};
 pub use declarations::{
     Declarations, DeclaredType, Known, Member, Signature, SignatureParameter, Storage,
-    StoredProperty, Subscript, Symbol, TypeName, Variable,
+    StoredProperty, Subscript, Symbol, TypeName, Variable, VariableType,
 };
 pub use found::both;
 pub use members::declared_type;
@@ -31,6 +32,8 @@ pub use own::self_value;
 pub use paths::{into_path, is_modifiable, subscript_of};
 pub use stack::Stack;
 pub use stop::{TypeKind, TypeStop};
+pub use table::Table;
+pub use variables::known_of;
 pub use walk::{
     Asked, Callee, Found, Gives, Judged, JudgedCallee, Local, LocalKind, Place, SelfValue, Use,
     Walk,

@@ -47,7 +47,7 @@ pub fn find_member(declarations: &Declarations, ty: Ty, name: u32) -> Option<Mem
 {
     match declared_type(declarations, ty) {
         None => None,
-        Some(declared) => declared.members.get(&name).copied(),
+        Some(declared) => declared.members.get(name),
     }
 }
 

@@ -53,7 +53,7 @@ fn outer_value(
             implied_member(alloc, declarations, walk, place, asked, node, site, member)
         }
         None => {
-            let symbol = declarations.symbols.get(&name).copied();
+            let symbol = declarations.symbols.get(name);
             global_value(alloc, declarations, walk, place, asked, node, site, symbol)
         }
     }
@@ -104,7 +104,18 @@ pub fn implied_property(
     match implied_self(alloc, declarations, walk, place, node, site)? {
         Found::Typed(this) => {
             let plain = is_plain(place, variable);
-            property_value(alloc, walk, place, asked, node, site, plain, this, variable)
+            property_value(
+                alloc,
+                declarations,
+                walk,
+                place,
+                asked,
+                node,
+                site,
+                plain,
+                this,
+                variable,
+            )
         }
         Found::Untold => Ok(Found::Untold),
         Found::Depends => Ok(Found::Depends),
@@ -155,7 +166,16 @@ fn symbol_value(
             }
         }
         Symbol::Variable(variable) => {
-            global_variable(alloc, walk, place, asked, node, site, variable)
+            global_variable(
+                alloc,
+                declarations,
+                walk,
+                place,
+                asked,
+                node,
+                site,
+                variable,
+            )
         }
     }
 }
@@ -229,7 +249,18 @@ pub fn member_value(
         None => walk.fails(TypeKind::UnknownName, node),
         Some(Member::Property(variable)) => {
             let plain = written_self && is_plain(place, variable);
-            property_value(alloc, walk, place, asked, node, site, plain, base, variable)
+            property_value(
+                alloc,
+                declarations,
+                walk,
+                place,
+                asked,
+                node,
+                site,
+                plain,
+                base,
+                variable,
+            )
         }
         Some(Member::Method(number)) => method_value(declarations, walk, node, number),
     }

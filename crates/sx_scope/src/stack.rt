@@ -2,6 +2,7 @@
 
 ghost use Rattle.std.specs.Prelude.{◌≡◌, ◌≤◌, ◌++◌, ◌∷◌, [], OnOk, length, take, drop};
 
+use sqlite_items::Items;
 use std::alloc::{AllocError, Global};
 use std::marker::Model;
 
@@ -44,6 +45,13 @@ impl<T: Drop> Stack<T> {
         ensures { result.now ≡ self.now }
     {
         self.items.as_slice()
+    }
+
+    /// The items, in a list of their own.
+    pub fn into_items(self) -> Items<T>
+        ensures { result ≡ self }
+    {
+        Items::from_vec(self.items)
     }
 
     /// Adds an item at the end.

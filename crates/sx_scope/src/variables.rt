@@ -1,11 +1,11 @@
 // Globals and properties.
 
-ghost use Rattle.std.specs.Prelude.{◌≡◌};
+ghost use Rattle.std.specs.Prelude.{◌≡◌, option_copied};
 ghost use Rattle.sx_scope.specs.Names as names;
 ghost use Rattle.sx_scope.specs.Verdict.{Answers};
 
 use crate::agreement::is_agreed;
-use crate::declarations::{Known, Variable};
+use crate::declarations::{Declarations, Known, Variable, VariableType};
 use crate::paths::{global_of, property_of};
 use crate::stop::{TypeKind, TypeStop};
 use crate::walk::{Asked, Found, Judged, Place, Walk};
@@ -27,6 +27,7 @@ pub fn is_plain(place: Place, variable: Variable) -> bool
 /// The value of a stored or computed global.
 pub fn global_variable(
     alloc: Global,
+    declarations: &Declarations,
     walk: &Walk,
     place: Place,
     asked: Asked,
@@ -34,9 +35,9 @@ pub fn global_variable(
     site: u32,
     variable: Variable,
 ) -> Judged
-    ensures { Answers result walk.now (names.global_variable place asked node site variable walk.now) }
+    ensures { Answers result walk.now (names.global_variable declarations.now place asked node site variable walk.now) }
 {
-    match variable_type(walk, place, asked, node, variable)? {
+    match variable_type(declarations, walk, place, asked, node, variable)? {
         Found::Typed(ty) => {
             let plain = is_plain(place, variable);
             let value = global_of(alloc, node, site, ty, plain, variable.storage);
@@ -50,6 +51,7 @@ pub fn global_variable(
 /// A property of a value. In its own observers it is `plain`: stored without observers.
 pub fn property_value(
     alloc: Global,
+    declarations: &Declarations,
     walk: &Walk,
     place: Place,
     asked: Asked,
@@ -59,9 +61,9 @@ pub fn property_value(
     base: Expr,
     variable: Variable,
 ) -> Judged
-    ensures { Answers result walk.now (names.property_value place asked node site plain base variable walk.now) }
+    ensures { Answers result walk.now (names.property_value declarations.now place asked node site plain base variable walk.now) }
 {
-    match variable_type(walk, place, asked, node, variable)? {
+    match variable_type(declarations, walk, place, asked, node, variable)? {
         Found::Typed(ty) => {
             let value = property_of(alloc, node, site, ty, plain, base, variable.storage)?;
             Ok(Found::Typed(value))
@@ -72,18 +74,19 @@ pub fn property_value(
 }
 
 fn variable_type(
+    declarations: &Declarations,
     walk: &Walk,
     place: Place,
     asked: Asked,
     node: Node,
     variable: Variable,
 ) -> Result<Found<Ty>, TypeStop>
-    ensures { Answers result walk.now (names.variable_type place asked node variable walk.now) }
+    ensures { Answers result walk.now (names.variable_type declarations.now place asked node variable walk.now) }
 {
     if comes_late(place, variable) {
         return walk.fails(TypeKind::NeedsType, node);
     }
-    known_type(walk, asked, node, variable.known)
+    known_type(walk, asked, node, known_of(declarations, variable.ty))
 }
 
 fn known_type(walk: &Walk, asked: Asked, node: Node, known: Known) -> Result<Found<Ty>, TypeStop>
@@ -110,6 +113,32 @@ fn comes_late(place: Place, variable: Variable) -> bool
 {
     match place.giving {
         None => false,
-        Some(giving) => variable.given && variable.node.0 >= giving.0,
+        Some(giving) => is_given(variable.ty) && variable.node.0 >= giving.0,
+    }
+}
+
+/// Whether an initial value gives the type.
+fn is_given(ty: VariableType) -> bool
+    ensures { result ≡ names.is_given ty }
+{
+    matches!(ty, VariableType::Given(_))
+}
+
+/// What is known of the type of a global or a property.
+pub fn known_of(declarations: &Declarations, ty: VariableType) -> Known
+    ensures { result ≡ names.known_in declarations.now ty }
+{
+    match ty {
+        VariableType::Written(known) => known,
+        VariableType::Given(number) => given_known(declarations.given.get(number as usize)),
+    }
+}
+
+fn given_known(known: Option<&Known>) -> Known
+    ensures { result ≡ names.given_known (option_copied known.entry) }
+{
+    match known {
+        Some(known) => *known,
+        None => Known::Untold,
     }
 }

@@ -86,7 +86,7 @@ fn named_type(
 ) -> Result<Found<Ty>, TypeStop>
     ensures { Answers result walk.now (written.type_named declarations.now node name walk.now) }
 {
-    match declarations.type_names.get(&name).copied() {
+    match declarations.type_names.get(name) {
         None => walk.fails(TypeKind::UnknownName, node),
         Some(TypeName::Failed) => Ok(Found::Depends),
         Some(TypeName::Type(ty)) => {
