@@ -1,0 +1,6 @@
+mod Leads
+mod Purposes
+pub mod Small
+mod Statements
+mod Turns
+mod Walks
