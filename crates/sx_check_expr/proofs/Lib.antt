@@ -1,0 +1,9 @@
+pub mod Equations
+pub mod LastStatements
+pub mod Moved
+pub mod Parts
+pub mod Runs
+pub mod StatementEquations
+pub mod StatementRuns
+pub mod Steps
+pub mod Stops

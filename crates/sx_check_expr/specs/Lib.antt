@@ -1,0 +1,4 @@
+pub mod Judge
+pub mod Deeper
+pub mod Arguments
+pub mod Steps
