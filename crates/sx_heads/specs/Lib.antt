@@ -1,0 +1,4 @@
+pub mod Heads
+pub mod Widths
+pub mod Signatures
+pub mod Variables
