@@ -1,0 +1,10 @@
+use Rattle.std.proofs.Common.{◌≡◌, ◌++◌, length}
+use Rattle.sx_tables.specs.Names.{no_numbers}
+use Rattle.sx_tables.specs.Tables.{symbols}
+use Rattle.sx_tables.proofs.tables.symbols_in.Given as goal
+
+abbrev pub invariant-items : goal.invariant-items
+invariant-items l = l.symbols ++ symbols l.declarations l.numbers l.items l.nodes ≡ symbols l.declarations no_numbers l.fn.items l.fn.nodes
+
+abbrev pub decreases-items : goal.decreases-items
+decreases-items l = length l.items
