@@ -1,0 +1,6 @@
+pub mod Kept
+pub mod Rising
+pub mod RisingLocals
+pub mod Runs
+pub mod Steps
+pub mod Telling

@@ -1,0 +1,9 @@
+use Rattle.std.proofs.Common.{◌≡◌, ◌++◌, length}
+use Rattle.sx_check_decl.specs.Fields.{classes_of}
+use Rattle.sx_check_decl.proofs.fields.classes_of.Given as goal
+
+abbrev pub invariant-names : goal.invariant-names
+invariant-names l = l.classes ++ classes_of l.declarations l.names l.declared ≡ classes_of l.declarations l.fn.names l.fn.declared
+
+abbrev pub decreases-names : goal.decreases-names
+decreases-names l = length l.names

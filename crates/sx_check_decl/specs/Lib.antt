@@ -1,0 +1,7 @@
+pub mod Items
+pub mod Captures
+pub mod Fields
+pub mod Locals
+pub mod Special
+pub mod Checked
+pub mod Program

@@ -1,0 +1,13 @@
+//! Programs: names and types, both ways, from a tree to the typed tree.
+#![tactic(auto)]
+
+mod captures;
+mod checking;
+mod fields;
+mod items;
+mod locals;
+mod settling;
+mod special;
+
+pub use checking::check;
+pub use items::{JudgedProgram, Program, Settled, TypedItem};
