@@ -29,6 +29,8 @@ use Rattle.sx_tree.specs.declared.declarations.Parameter.{Parameter}
 use Rattle.sx_tree.specs.declared.declarations.Subscript.{Subscript}
 use Rattle.sx_tree.specs.declared.declarations.TypeDeclaration.{TypeDeclaration}
 use Rattle.sx_tree.specs.declared.declarations.Variable.{Variable}
+use Rattle.sx_tree.specs.declared.nodes.FaultOf.{FaultOf}
+use Rattle.sx_tree.specs.declared.nodes.FaultOf.TheVariants as faults
 
 abbrev pub Places : Type 0
 Places = List ℕ
@@ -196,9 +198,15 @@ local_places = fold-Local Places (ℕ → Places) PartNodes (ℕ → Places) Pla
 abbrev pub statement_places : Statement → Places
 statement_places = fold-Statement Places (ℕ → Places) PartNodes (ℕ → Places) Places Places Places Places Places Places Places else_step form_step part_step statement_form_step argument_step block_step closure_step expr_step link_step local_step statement_step
 
--- Declarations. An accessor has the place that is given.
-abbrev pub accessor_places : ℕ → Accessor → Places
-accessor_places place a = place ∷ block_places a.body
+-- Declarations. A fault of an accessor as a whole stands at the place of its declaration, and one of its parameter at the name of that
+-- parameter, if it is written.
+abbrev pub name_or : ℕ → Option Name → ℕ
+name_or place None = place
+name_or place (Some n) = n.span.start
+
+abbrev pub accessor_place : FaultOf → ℕ → Accessor → ℕ
+accessor_place faults.Accessor place a = place
+accessor_place faults.Parameter place a = name_or place a.parameter
 
 abbrev pub parameter_places : Parameter → Places
 parameter_places p = p.name.span.start ∷ type_places p.ty
@@ -206,29 +214,40 @@ parameter_places p = p.name.span.start ∷ type_places p.ty
 abbrev pub function_places : Function → Places
 function_places f = f.name.span.start ∷ (all (map parameter_places f.parameters) ++ (option_places type_places f.result ++ block_places f.body))
 
-abbrev pub variable_places : Variable → Places
-variable_places v = v.name.span.start ∷ (option_places type_places v.ty ++ (option_places expr_places v.value ++ all (map (accessor_places v.name.span.start) v.accessors)))
-
-abbrev pub subscript_places : Subscript → Places
-subscript_places s = s.span.start ∷ (all (map parameter_places s.parameters) ++ (type_places s.result ++ all (map (accessor_places s.span.start) s.accessors)))
-
 abbrev pub initialiser_places : Initialiser → Places
 initialiser_places i = i.span.start ∷ (all (map parameter_places i.parameters) ++ block_places i.body)
 
-abbrev pub member_places : Member → Places
-member_places (members.Property v) = variable_places v
-member_places (members.Method f) = function_places f
-member_places (members.Subscript s) = subscript_places s
-member_places (members.Initialiser i) = initialiser_places i
+module _ (of : FaultOf) where
+  abbrev pub accessor_places : ℕ → Accessor → Places
+  accessor_places place a = accessor_place of place a ∷ block_places a.body
 
-abbrev pub type_declaration_places : TypeDeclaration → Places
-type_declaration_places t = t.name.span.start ∷ all (map member_places t.members)
+  abbrev pub variable_places : Variable → Places
+  variable_places v = v.name.span.start ∷ (option_places type_places v.ty ++ (option_places expr_places v.value ++ all (map (accessor_places v.name.span.start) v.accessors)))
 
-abbrev pub item_places : Item → Places
-item_places (items.Function f) = function_places f
-item_places (items.Type t) = type_declaration_places t
-item_places (items.Global v) = variable_places v
-item_places (items.Statement s) = statement_places s
+  abbrev pub subscript_places : Subscript → Places
+  subscript_places s = s.span.start ∷ (all (map parameter_places s.parameters) ++ (type_places s.result ++ all (map (accessor_places s.span.start) s.accessors)))
 
+  abbrev pub member_places : Member → Places
+  member_places (members.Property v) = variable_places v
+  member_places (members.Method f) = function_places f
+  member_places (members.Subscript s) = subscript_places s
+  member_places (members.Initialiser i) = initialiser_places i
+
+  abbrev pub type_declaration_places : TypeDeclaration → Places
+  type_declaration_places t = t.name.span.start ∷ all (map member_places t.members)
+
+  abbrev pub item_places : Item → Places
+  item_places (items.Function f) = function_places f
+  item_places (items.Type t) = type_declaration_places t
+  item_places (items.Global v) = variable_places v
+  item_places (items.Statement s) = statement_places s
+
+  abbrev pub places_of_items : List Item → Places
+  places_of_items is = all (map item_places is)
+
+-- where the faults of the nodes stand, and where those of accessors' parameters do
 abbrev pub all_places : List Item → Places
-all_places is = all (map item_places is)
+all_places = places_of_items faults.Accessor
+
+abbrev pub all_parameter_places : List Item → Places
+all_parameter_places = places_of_items faults.Parameter

@@ -34,7 +34,7 @@ pub use declarations::{
     Parameter, Subscript, SubscriptHead, TypeDeclaration, TypeHead, TypeKind, Variable,
     VariableHead,
 };
-pub use nodes::NoMemory;
+pub use nodes::{FaultOf, NoMemory};
 pub use operators::{Assignment, BinaryOperator};
-pub use tree::{Tree, fault_place};
+pub use tree::{Tree, fault_place, parameter_fault_place};
 pub use written_types::{ClosureParameter, Name, Signature, TypeForm, TypeParameter, WrittenType};

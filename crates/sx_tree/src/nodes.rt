@@ -1,7 +1,7 @@
 // The list of the nodes of a tree: for each node, in order, the place where its faults stand.
 
 ghost use Rattle.std.specs.Prelude.{◌≡◌, ◌++◌, ◌∷◌, [], OnOk, map, option_map};
-ghost use Rattle.sx_tree.specs.Nodes.{accessor_places, all, argument_places, block_places, called, closure_parameter_places, closure_places, else_places, expr_places, form_places, function_places, initialiser_places, inner_of_parts, item_places, link_places, local_places, member_places, name_places, option_places, own_of_links, own_of_parts, parameter_places, part_nodes, all_places, signature_places, statement_form_places, statement_places, subscript_places, trailing, type_declaration_places, type_form_places, type_parameter_places, type_places, variable_places};
+ghost use Rattle.sx_tree.specs.Nodes.{accessor_place, accessor_places, all, argument_places, block_places, called, closure_parameter_places, closure_places, else_places, expr_places, form_places, function_places, initialiser_places, inner_of_parts, item_places, link_places, local_places, member_places, name_places, option_places, own_of_links, own_of_parts, parameter_places, part_nodes, places_of_items, signature_places, statement_form_places, statement_places, subscript_places, trailing, type_declaration_places, type_form_places, type_parameter_places, type_places, variable_places};
 
 use crate::code::{
     Argument, Block, Closure, Else, Expr, ExprForm, Link, Local, Part, Statement, StatementForm,
@@ -32,6 +32,16 @@ impl<T: Drop> From<AllocFailed<T>> for NoMemory {
     fn from(_: AllocFailed<T>) -> NoMemory {
         NoMemory
     }
+}
+
+/// Of what a fault tells that stands at an accessor.
+#[derive(Clone, Copy, Debug, PartialEq, Eq)]
+pub enum FaultOf {
+    /// Of the accessor as a whole: it stands at the name of the property or global, or at the word
+    /// `subscript`.
+    Accessor,
+    /// Of its parameter: it stands at the parameter's name, if that is written.
+    Parameter,
 }
 
 fn put(places: &mut Vec<u32>, place: u32) -> Result<(), NoMemory>
@@ -356,18 +366,38 @@ fn put_statement(places: &mut Vec<u32>, statement: &Statement) -> Result<(), NoM
     }
 }
 
-fn put_accessor(places: &mut Vec<u32>, accessor: &Accessor, place: u32) -> Result<(), NoMemory>
-    ensures { OnOk result (places.new.items ≡ places.old.items ++ accessor_places place accessor.now) }
+/// Where such a fault of an accessor stands, the declaration of which has this place.
+fn accessor_place(of: FaultOf, accessor: &Accessor, place: u32) -> u32
+    ensures { result ≡ accessor_place of place accessor.now }
 {
-    put(places, place)?;
+    match (of, &accessor.parameter) {
+        (FaultOf::Parameter, Some(name)) => name.span.start,
+        _ => place,
+    }
+}
+
+fn put_accessor(
+    places: &mut Vec<u32>,
+    of: FaultOf,
+    accessor: &Accessor,
+    place: u32,
+) -> Result<(), NoMemory>
+    ensures { OnOk result (places.new.items ≡ places.old.items ++ accessor_places of place accessor.now) }
+{
+    put(places, accessor_place(of, accessor, place))?;
     put_block(places, &accessor.body)
 }
 
-fn put_accessors(places: &mut Vec<u32>, accessors: &[Accessor], place: u32) -> Result<(), NoMemory>
-    ensures { OnOk result (places.new.items ≡ places.old.items ++ all (map (accessor_places place) accessors.now)) }
+fn put_accessors(
+    places: &mut Vec<u32>,
+    of: FaultOf,
+    accessors: &[Accessor],
+    place: u32,
+) -> Result<(), NoMemory>
+    ensures { OnOk result (places.new.items ≡ places.old.items ++ all (map (accessor_places of place) accessors.now)) }
 {
     for accessor in accessors {
-        put_accessor(places, accessor, place)?;
+        put_accessor(places, of, accessor, place)?;
     }
     Ok(())
 }
@@ -397,24 +427,24 @@ fn put_function(places: &mut Vec<u32>, function: &Function) -> Result<(), NoMemo
     put_block(places, &function.body)
 }
 
-fn put_variable(places: &mut Vec<u32>, variable: &Variable) -> Result<(), NoMemory>
-    ensures { OnOk result (places.new.items ≡ places.old.items ++ variable_places variable.now) }
+fn put_variable(places: &mut Vec<u32>, of: FaultOf, variable: &Variable) -> Result<(), NoMemory>
+    ensures { OnOk result (places.new.items ≡ places.old.items ++ variable_places of variable.now) }
 {
     let place = variable.name.span.start;
     put(places, place)?;
     put_written(places, &variable.ty)?;
     put_value(places, &variable.value)?;
-    put_accessors(places, variable.accessors.as_slice(), place)
+    put_accessors(places, of, variable.accessors.as_slice(), place)
 }
 
-fn put_subscript(places: &mut Vec<u32>, subscript: &Subscript) -> Result<(), NoMemory>
-    ensures { OnOk result (places.new.items ≡ places.old.items ++ subscript_places subscript.now) }
+fn put_subscript(places: &mut Vec<u32>, of: FaultOf, subscript: &Subscript) -> Result<(), NoMemory>
+    ensures { OnOk result (places.new.items ≡ places.old.items ++ subscript_places of subscript.now) }
 {
     let place = subscript.span.start;
     put(places, place)?;
     put_parameters(places, subscript.parameters.as_slice())?;
     put_type(places, &subscript.result)?;
-    put_accessors(places, subscript.accessors.as_slice(), place)
+    put_accessors(places, of, subscript.accessors.as_slice(), place)
 }
 
 fn put_initialiser(places: &mut Vec<u32>, initialiser: &Initialiser) -> Result<(), NoMemory>
@@ -425,46 +455,46 @@ fn put_initialiser(places: &mut Vec<u32>, initialiser: &Initialiser) -> Result<(
     put_block(places, &initialiser.body)
 }
 
-fn put_member(places: &mut Vec<u32>, member: &Member) -> Result<(), NoMemory>
-    ensures { OnOk result (places.new.items ≡ places.old.items ++ member_places member.now) }
+fn put_member(places: &mut Vec<u32>, of: FaultOf, member: &Member) -> Result<(), NoMemory>
+    ensures { OnOk result (places.new.items ≡ places.old.items ++ member_places of member.now) }
 {
     match member {
-        Member::Property(variable) => put_variable(places, variable),
+        Member::Property(variable) => put_variable(places, of, variable),
         Member::Method(function) => put_function(places, function),
-        Member::Subscript(subscript) => put_subscript(places, subscript),
+        Member::Subscript(subscript) => put_subscript(places, of, subscript),
         Member::Initialiser(initialiser) => put_initialiser(places, initialiser),
     }
 }
 
-fn put_members(places: &mut Vec<u32>, members: &[Member]) -> Result<(), NoMemory>
-    ensures { OnOk result (places.new.items ≡ places.old.items ++ all (map member_places members.now)) }
+fn put_members(places: &mut Vec<u32>, of: FaultOf, members: &[Member]) -> Result<(), NoMemory>
+    ensures { OnOk result (places.new.items ≡ places.old.items ++ all (map (member_places of) members.now)) }
 {
     for member in members {
-        put_member(places, member)?;
+        put_member(places, of, member)?;
     }
     Ok(())
 }
 
-fn put_item(places: &mut Vec<u32>, item: &Item) -> Result<(), NoMemory>
-    ensures { OnOk result (places.new.items ≡ places.old.items ++ item_places item.now) }
+fn put_item(places: &mut Vec<u32>, of: FaultOf, item: &Item) -> Result<(), NoMemory>
+    ensures { OnOk result (places.new.items ≡ places.old.items ++ item_places of item.now) }
 {
     match item {
         Item::Function(function) => put_function(places, function),
         Item::Type(declaration) => {
             put(places, declaration.name.span.start)?;
-            put_members(places, declaration.members.as_slice())
+            put_members(places, of, declaration.members.as_slice())
         }
-        Item::Global(variable) => put_variable(places, variable),
+        Item::Global(variable) => put_variable(places, of, variable),
         Item::Statement(statement) => put_statement(places, statement),
     }
 }
 
-/// Adds where the faults of each node of the items stand.
-pub fn put_items(places: &mut Vec<u32>, items: &[Item]) -> Result<(), NoMemory>
-    ensures { OnOk result (places.new.items ≡ places.old.items ++ all_places items.now) }
+/// Adds where such faults of each node of the items stand.
+pub fn put_items(places: &mut Vec<u32>, of: FaultOf, items: &[Item]) -> Result<(), NoMemory>
+    ensures { OnOk result (places.new.items ≡ places.old.items ++ places_of_items of items.now) }
 {
     for item in items {
-        put_item(places, item)?;
+        put_item(places, of, item)?;
     }
     Ok(())
 }
