@@ -39,7 +39,7 @@ use Rattle.sx_scope.specs.declared.walk.Place.{Place}
 use Rattle.sx_scope.specs.declared.walk.Use.{Use}
 use Rattle.sx_scope.specs.declared.walk.Use.TheVariants as uses
 use Rattle.sx_scope.specs.declared.walk.Walk.{Walk}
-use Rattle.sx_scope.specs.Verdict.{Verdict, typed, untold, depends, fails, Answers, Judging, ◌▷◌, both, both_by, need, need_narrow, fault, moved}
+use Rattle.sx_scope.specs.Verdict.{Verdict, typed, untold, depends, fails, Answers, Judging, ◌▷◌, both, both_by, need, need_narrow, fault, moved, unless_broken}
 use Rattle.sx_scope.specs.Walks.{numbered}
 use Rattle.sx_scope.specs.Names.{agrees, is_function}
 use Rattle.sx_scope.specs.Paths.{an_expr}
@@ -237,11 +237,6 @@ abbrev pub has_function : FunctionType → Bool
 has_function f = list_any (λ (p : FunctionParameter). is_function p.ty) f.parameters
 
 -- ---- conditions of a literal
--- judged so unless a condition of the node is broken
-abbrev pub unless_broken : {A : Type 0} → Option TypeKind → Node → Judging A → Judging A
-unless_broken None n m w = m w
-unless_broken (Some k) n m w = fault k n w
-
 -- judged by what fits, unless a condition of the node is broken
 abbrev pub where_it_fits : {A B : Type 0} → Result A TypeKind → Node → (A → Judging B) → Judging B
 where_it_fits (Ok a) n m w = m a w

@@ -32,7 +32,7 @@ use Rattle.sx_scope.specs.declared.walk.Callee.TheVariants as callee
 use Rattle.sx_scope.specs.declared.walk.Place.{Place}
 use Rattle.sx_scope.specs.declared.walk.Use.{Use}
 use Rattle.sx_scope.specs.declared.walk.Use.TheVariants as uses
-use Rattle.sx_scope.specs.Verdict.{Verdict, typed, untold, depends, Judging, ◌▷◌, both, both_by, need, fault, loosely}
+use Rattle.sx_scope.specs.Verdict.{Verdict, typed, untold, depends, Judging, ◌▷◌, both, both_by, need, fault, loosely, unless_broken}
 use Rattle.sx_scope.specs.Walks.{numbered}
 use Rattle.sx_scope.specs.Names.{agrees, is_function, declared_type, function, known_in}
 use Rattle.sx_scope.specs.Paths.{an_expr, path_of, modifiable, subscript_of}
@@ -86,11 +86,6 @@ broken_in (slots.For t) a = broken_for a t
 broken_in (slots.Property k t) a = broken_for a t
 broken_in slots.Printed a = broken_printed a
 broken_in s a = None
-
--- a node that breaks no condition
-abbrev pub unless_broken : {A : Type 0} → Option TypeKind → Node → Judging A → Judging A
-unless_broken None n m = m
-unless_broken (Some k) n m = fault k n
 
 -- an operand behind `&` can be modified
 abbrev pub is_assignable : Shape → Expr → Bool

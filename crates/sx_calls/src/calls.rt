@@ -2,7 +2,7 @@
 
 ghost use Rattle.std.specs.Prelude.{◌≡◌, IfOk, option_copied};
 ghost use Rattle.sx_calls.specs.Calls as calls;
-ghost use Rattle.sx_scope.specs.Verdict.{Answers, typed};
+ghost use Rattle.sx_scope.specs.Verdict.{Answers, typed, unless_broken};
 ghost use Rattle.sx_typed.specs.declared.code.Form.TheVariants as forms;
 
 use crate::conditions::{fails, unless_broken};
@@ -126,7 +126,7 @@ fn method_judged(
     arguments: Items<Argument>,
     signature: &Signature,
 ) -> Judged
-    ensures { Answers result walk.now (calls.unless_broken broken node (typed (calls.method_expr node site base arguments signature.now)) walk.now) }
+    ensures { Answers result walk.now (unless_broken broken node (typed (calls.method_expr node site base arguments signature.now)) walk.now) }
 {
     let call = method_expr(alloc, node, site, base, arguments, signature)?;
     unless_broken(walk, broken, node, call)

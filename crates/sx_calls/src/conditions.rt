@@ -1,7 +1,6 @@
 // What is found where a node breaks a condition.
 
-ghost use Rattle.sx_calls.specs.Calls as calls;
-ghost use Rattle.sx_scope.specs.Verdict.{Answers, fault, need, typed};
+ghost use Rattle.sx_scope.specs.Verdict.{Answers, fault, need, typed, unless_broken};
 
 use sx_scope::{Found, Judged, TypeKind, TypeStop, Walk};
 use sx_span::Node;
@@ -38,7 +37,7 @@ pub(crate) fn unless_broken(
     node: Node,
     value: Expr,
 ) -> Judged
-    ensures { Answers result walk.now (calls.unless_broken broken node (typed value) walk.now) }
+    ensures { Answers result walk.now (unless_broken broken node (typed value) walk.now) }
 {
     match broken {
         Some(kind) => fails(walk, kind, node),

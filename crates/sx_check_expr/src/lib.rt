@@ -9,7 +9,6 @@ mod elements;
 mod ends;
 mod exprs;
 mod indices;
-mod joined;
 mod knot;
 mod links;
 mod literals;
@@ -17,6 +16,7 @@ mod locals;
 mod operands;
 mod postfix;
 mod returns;
+mod room;
 mod statements;
 
 pub use deeper::{JudgedStatement, JudgedStatements};

@@ -11,13 +11,13 @@ ghost use Rattle.sx_scope.specs.declared.walk.Gives.TheVariants as gives;
 use crate::blocks::body;
 use crate::deeper::JudgedStatement;
 use crate::ends::lacks_return;
-use crate::joined::{joined, unless_full};
+use crate::room::unless_full;
 use sqlite_items::Items;
 use std::alloc::Global;
 use sx_bodies::{
     close, gives_by, inside_literal, literal_made, parameters, result_type, untold_literal,
 };
-use sx_scope::{Asked, Declarations, Found, Gives, Judged, Place, TypeStop, Use, Walk};
+use sx_scope::{Asked, Declarations, Found, Gives, Judged, Place, TypeStop, Use, Walk, joined};
 use sx_span::Node;
 use sx_tree::{Closure, Expr, Signature, Statement};
 use sx_typed::{Block, Parameter};

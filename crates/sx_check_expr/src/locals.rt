@@ -9,14 +9,14 @@ ghost use Rattle.sx_scope.specs.WrittenTypes.{judged_option};
 ghost use Rattle.sx_scope.specs.declared.walk.Use.TheVariants as uses;
 
 use crate::deeper::{JudgedStatement, judge_expr};
-use crate::joined::{joined, unless_full};
+use crate::room::unless_full;
 use std::alloc::Global;
 use sx_bodies::{
     asked_by_written, declare, declared_with, giving_in, is_fresh, known_type, local_form,
     not_void_written,
 };
 use sx_scope::{
-    Asked, Declarations, Found, Judged, LocalKind, Place, TypeKind, TypeStop, Use, Walk,
+    Asked, Declarations, Found, Judged, LocalKind, Place, TypeKind, TypeStop, Use, Walk, joined,
     type_option,
 };
 use sx_span::Node;

@@ -11,13 +11,12 @@ ghost use Rattle.sx_types.specs.declared.types.Ty.TheVariants as ty;
 
 use crate::blocks::{block, one};
 use crate::deeper::{JudgedStatement, JudgedStatements, judge_expr, judge_statement};
-use crate::joined::joined;
 use crate::locals::local_statement;
 use crate::returns::return_statement;
 use sqlite_items::Items;
 use std::alloc::Global;
 use sx_bodies::{asked_of_left, asked_of_right, assignable, assignment_form};
-use sx_scope::{Asked, Declarations, Found, Judged, Place, TypeKind, TypeStop, Use, Walk};
+use sx_scope::{Asked, Declarations, Found, Judged, Place, TypeKind, TypeStop, Use, Walk, joined};
 use sx_tree::{Assignment, Block, Else, Expr, Statement, StatementForm};
 use sx_types::Ty;
 

@@ -7,12 +7,12 @@ ghost use Rattle.sx_functions.specs.Places as places;
 ghost use Rattle.sx_scope.specs.Verdict.{Answers, ◌▷◌, both, found, moved, typed};
 
 use crate::own::{modifies, narrow_accessor, own_name, own_narrow, own_parameter, takes};
-use crate::parts::{add_function, joined, parameters_of};
-use crate::places::{body_place, body_value, demand, is_return_missing, leave};
+use crate::parts::{add_function, parameters_of};
+use crate::places::{body_place, body_value, is_return_missing, leave};
 use sqlite_items::Items;
 use std::alloc::{AllocError, Global};
 use sx_heads::HeadParameter;
-use sx_scope::{Declarations, Found, Gives, Known, TypeKind, TypeStop, Walk, both};
+use sx_scope::{Declarations, Found, Gives, Known, TypeKind, TypeStop, Walk, both, demand, joined};
 use sx_span::Node;
 use sx_tree::{Accessor, AccessorKind};
 use sx_typed::{Block, Function, FunctionKind, Marker, Parameter};

@@ -7,13 +7,13 @@ ghost use Rattle.sx_heads.specs.Heads.{checked_head};
 ghost use Rattle.sx_heads.specs.declared.parameters.ParameterList.TheVariants as lists;
 ghost use Rattle.sx_scope.specs.Verdict.{Answers, ◌▷◌, both, moved, typed_part};
 
-use crate::parts::{add_function, demand_narrow, joined, parameters_of};
-use crate::places::{body_place, body_value, demand, is_return_missing, leave, new_name};
+use crate::parts::{add_function, demand_narrow, parameters_of};
+use crate::places::{body_place, body_value, is_return_missing, leave, new_name};
 use indexmap::IndexSet;
 use sqlite_items::Items;
 use std::alloc::Global;
 use sx_heads::{HeadParameter, JudgedHead, ParameterList, checked_head, is_narrow_head};
-use sx_scope::{Declarations, Found, Gives, TypeKind, TypeStop, Walk};
+use sx_scope::{Declarations, Found, Gives, TypeKind, TypeStop, Walk, demand, joined};
 use sx_span::Node;
 use sx_tree::Function;
 use sx_typed::{Block, FunctionKind};

@@ -1,30 +1,17 @@
 // What functions are made of.
 
-ghost use Rattle.std.specs.Prelude.{◌≡◌, ◌++◌, ◌∷◌, IfOk, Option, OnOk, drop, map, take};
+ghost use Rattle.std.specs.Prelude.{◌≡◌, ◌++◌, ◌∷◌, IfOk, OnOk, drop, map, take};
 ghost use Rattle.sx_bodies.specs.Literals.{with_literal};
 ghost use Rattle.sx_functions.specs.Functions as functions;
-ghost use Rattle.sx_scope.specs.Verdict.{Answers, Judging, both_by, found, need_narrow, typed, typed_part};
+ghost use Rattle.sx_scope.specs.Verdict.{Answers, need_narrow, typed};
 ghost use Rattle.sx_scope.specs.declared.walk.Walk.{Walk};
 
 use sqlite_items::Items;
 use std::alloc::{AllocError, Global};
 use sx_heads::HeadParameter;
-use sx_scope::{Found, Stack, TypeStop, Walk, both};
+use sx_scope::{Found, Stack, TypeStop, Walk};
 use sx_span::Node;
 use sx_typed::{Function, Parameter};
-
-/// What is found at a part, and what was judged of another behind it.
-pub(crate) fn joined<A: Drop, B: Drop>(
-    first: Found<A>,
-    second: Result<Found<B>, TypeStop>,
-) -> Result<Found<(A, B)>, TypeStop>
-    ensures { (m : Option A → Judging B) (v : Walk) (w : Walk) → Answers second w (m (typed_part first) v) → Answers result w (both_by (found first v) m) }
-{
-    match second {
-        Ok(second) => Ok(both(first, second)),
-        Err(stop) => Err(stop),
-    }
-}
 
 /// A node whose parameters may not have too many words.
 pub(crate) fn demand_narrow(walk: &Walk, narrow: bool, node: Node) -> Result<Found<()>, TypeStop>

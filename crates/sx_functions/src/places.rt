@@ -4,13 +4,13 @@ ghost use Rattle.std.specs.Prelude.{◌≡◌, ◌++◌, ◌∷◌, OnOk, drop, 
 ghost use Rattle.sx_bodies.specs.Statements.{lacks_return};
 ghost use Rattle.sx_check_expr.specs.Judge.{judged_statements};
 ghost use Rattle.sx_functions.specs.Places as places;
-ghost use Rattle.sx_scope.specs.Verdict.{Answers, need, typed};
+ghost use Rattle.sx_scope.specs.Verdict.{Answers};
 
 use indexmap::IndexSet;
 use std::alloc::Global;
 use sx_bodies::is_reserved;
 use sx_check_expr::body;
-use sx_scope::{Declarations, Found, Gives, Place, SelfValue, TypeKind, TypeStop, Walk};
+use sx_scope::{Declarations, Found, Gives, Place, SelfValue, TypeKind, TypeStop, Walk, demand};
 use sx_span::Node;
 use sx_tree::{Block, Statement};
 use sx_types::Ty;
@@ -102,22 +102,6 @@ fn is_new(declarations: &Declarations, seen: &IndexSet<u32>, name: u32) -> bool
     ensures { result ≡ places.is_new declarations.now seen.now.keys name }
 {
     !(is_reserved(declarations, name) || seen.contains(&name))
-}
-
-/// A node of which this must hold.
-pub(crate) fn demand(
-    walk: &Walk,
-    holds: bool,
-    kind: TypeKind,
-    node: Node,
-) -> Result<Found<()>, TypeStop>
-    ensures { Answers result walk.now (need holds kind node (typed tt) walk.now) }
-{
-    if holds {
-        Ok(Found::Typed(()))
-    } else {
-        walk.fails(kind, node)
-    }
 }
 
 /// Whether a body of which a value is asked reaches its end, where these are its statements.

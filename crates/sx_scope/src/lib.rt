@@ -25,7 +25,7 @@ pub use declarations::{
     Declarations, DeclaredType, Known, Member, Signature, SignatureParameter, Storage,
     StoredProperty, Subscript, Symbol, TypeName, Variable, VariableType,
 };
-pub use found::both;
+pub use found::{both, demand, joined};
 pub use members::declared_type;
 pub use names::{member_value, name_value};
 pub use own::self_value;

@@ -4,7 +4,7 @@ use std::alloc::{AllocError, AllocFailed};
 use sx_span::Node;
 
 /// A condition on names and types that a node of a tree breaks.
-#[derive(Clone, Copy)]
+#[derive(Clone, Copy, Debug, PartialEq, Eq)]
 pub enum TypeKind {
     /// No declaration, member or type has this name.
     UnknownName,

@@ -1,6 +1,6 @@
 use Rattle.std.proofs.Common.{ap, sym}
 use Rattle.sx_scope.specs.Verdict.{untold}
-use Rattle.sx_bodies.specs.Literals.{unless_broken}
+use Rattle.sx_scope.specs.Verdict.{unless_broken}
 use Rattle.sx_bodies.proofs.Failing.{told}
 use Rattle.sx_bodies.proofs.literals.untold_literal.Goals as goal
 
