@@ -1,5 +1,5 @@
 -- Structures and classes with their members (The Swift Programming Language, "Structures and Classes").
-use Rattle.std.specs.Prelude.{ℕ, suc, Bool, true, false, not, List, [], ◌∷◌, ◌++◌, map, take, length, nat_eq, Option, Some, None, is_none, cond}
+use Rattle.std.specs.Prelude.{ℕ, suc, Bool, true, false, not, List, [], ◌∷◌, ◌++◌, map, length, nat_eq, Option, Some, None, is_none, cond}
 use Rattle.std.specs.List.{list_any}
 use Rattle.sx_span.specs.declared.places.Node.{Node}
 use Rattle.sx_tree.specs.declared.declarations.Function.{Function as WrittenFunction}
@@ -69,10 +69,6 @@ parameters_of (Some (u, h)) = h.0
 
 abbrev pub no_property : {A : Type 0} → A → Judging (Option NamedProperty)
 no_property x = typed None
-
--- so many locals stay in scope, and so many mentions count
-abbrev pub shortened : ℕ → ℕ → Walk → Walk
-shortened locals mentions w = record w { locals = take locals w.locals; mentions = take mentions w.mentions }
 
 abbrev pub subscript_parts : Declarations → OwnNames → Option Ty → Bool → Node → Subscript → Judging (HeadParts × Unit {0})
 subscript_parts d names owner another n s w =

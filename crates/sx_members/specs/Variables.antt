@@ -1,5 +1,5 @@
 -- Globals and properties, with their initial values (The Swift Programming Language, "Declarations", variables and constants).
-use Rattle.std.specs.Prelude.{ℕ, Bool, true, false, not, nat_le, List, [], length, slice_get, Option, Some, None, option_and_then, cond}
+use Rattle.std.specs.Prelude.{ℕ, Bool, true, false, not, nat_le, List, [], ◌∷◌, length, slice_get, Option, Some, None, option_and_then, cond}
 use Rattle.sx_span.specs.declared.places.Node.{Node}
 use Rattle.sx_tree.specs.declared.code.Expr.{Expr}
 use Rattle.sx_tree.specs.declared.declarations.Variable.{Variable}
@@ -10,6 +10,7 @@ use Rattle.sx_typed.specs.declared.code.Expr.{Expr as TypedExpr}
 use Rattle.sx_scope.specs.declared.stop.TypeKind.{TypeKind}
 use Rattle.sx_scope.specs.declared.stop.TypeKind.TheVariants as kind
 use Rattle.sx_scope.specs.declared.stop.TypeStop.{TypeStop}
+use Rattle.sx_scope.specs.declared.stop.TypeStop.TheVariants.{Typing, TooWide, Late, NoMemory}
 use Rattle.sx_scope.specs.declared.declarations.Declarations.{Declarations}
 use Rattle.sx_scope.specs.declared.declarations.Known.{Known}
 use Rattle.sx_scope.specs.declared.declarations.Known.TheVariants as known
@@ -18,6 +19,7 @@ use Rattle.sx_scope.specs.declared.walk.Asked.TheVariants as asked
 use Rattle.sx_scope.specs.declared.walk.Gives.TheVariants as gives
 use Rattle.sx_scope.specs.declared.walk.Place.{Place}
 use Rattle.sx_scope.specs.declared.walk.Use.TheVariants as uses
+use Rattle.sx_scope.specs.declared.walk.Walk.{Walk}
 use Rattle.sx_scope.specs.Verdict.{Verdict, typed, depends, fails, Judging, ◌▷◌, both, both_by, need, need_narrow, unless_broken, failing, behind}
 use Rattle.sx_scope.specs.Walks.{numbered}
 use Rattle.sx_scope.specs.Names.{given_known}
@@ -89,9 +91,26 @@ given_value d n e w = (judged_expr d e).value (giving_place n) asked.Nothing use
 abbrev pub depending : VariableParts → Judging VariableParts
 depending x = depends
 
--- Where a declaration has failed, what it failed by first stands.
+-- ---- a declaration that has failed
+-- the number of the node at which something fails
+abbrev pub number_of : TypeStop → ℕ
+number_of (Typing kind n) = n.0
+number_of (TooWide n) = n.0
+number_of (Late at global) = at.0
+number_of NoMemory = 0
+
+-- these faults, and this one among them by its number
+abbrev pub with_stop : TypeStop → List TypeStop → List TypeStop
+with_stop f [] = f ∷ []
+with_stop f (g ∷ gs) = cond (nat_le (number_of g) (number_of f)) (g ∷ with_stop f gs) (f ∷ g ∷ gs)
+
+abbrev pub failed_with : TypeStop → List TypeStop → Walk → Verdict VariableParts
+failed_with f [] w = fails f [] w
+failed_with f (g ∷ gs) w = cond (nat_le (number_of g) (number_of f)) (fails g (with_stop f gs) w) (fails f (g ∷ gs) w)
+
+-- Where a declaration has failed, what it failed by first is among its faults.
 abbrev pub kept : Known → Option TypeStop → Verdict VariableParts → Verdict VariableParts
-kept known.Failed (Some f) v = fails f (failing v) (behind v)
+kept known.Failed (Some f) v = failed_with f (failing v) (behind v)
 kept known.Failed None v = v ▷ depending
 kept k o v = v
 

@@ -2,7 +2,6 @@
 #![tactic(auto)]
 
 mod members;
-mod parts;
 mod subscripts;
 mod types;
 mod variables;

@@ -9,12 +9,11 @@ ghost use Rattle.sx_members.specs.Variables.{accessed};
 ghost use Rattle.sx_scope.specs.Verdict.{Answers, ◌▷◌, moved, typed_part};
 
 use crate::members::JudgedMember;
-use crate::parts::{demand, joined};
 use sqlite_items::Items;
 use std::alloc::{AllocError, Global};
-use sx_functions::{Accessed, OwnNames, accessors};
+use sx_functions::{Accessed, OwnNames, accessors, leave};
 use sx_heads::{HeadParameter, JudgedHead, ParameterList, checked_head};
-use sx_scope::{Declarations, Found, Known, TypeKind, TypeStop, Walk, is_void};
+use sx_scope::{Declarations, Found, Known, TypeKind, TypeStop, Walk, demand, is_void, joined};
 use sx_span::Node;
 use sx_tree::Subscript;
 use sx_types::Ty;
@@ -78,14 +77,6 @@ fn left_parts(
     );
     leave(walk, locals, mentions);
     parts
-}
-
-/// Goes on behind a subscript: so many locals stay in scope, and so many mentions count.
-fn leave(walk: &mut Walk, locals: usize, mentions: usize)
-    ensures { walk.new ≡ members.shortened locals mentions walk.old }
-{
-    walk.locals.truncate(locals);
-    walk.mentions.truncate(mentions);
 }
 
 /// The head of a subscript, and its accessors.

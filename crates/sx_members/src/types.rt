@@ -7,12 +7,11 @@ ghost use Rattle.sx_members.specs.Members as members;
 ghost use Rattle.sx_scope.specs.Verdict.{Answers, ◌▷◌};
 
 use crate::members::{NamedProperty, stored_properties};
-use crate::parts::joined;
 use indexmap::IndexSet;
 use sqlite_items::Items;
 use std::alloc::{AllocError, Global};
 use sx_functions::{OwnNames, new_name};
-use sx_scope::{Declarations, Found, Stack, TypeKind, TypeStop, Walk};
+use sx_scope::{Declarations, Found, Stack, TypeKind, TypeStop, Walk, joined};
 use sx_span::Node;
 use sx_typed::{Function, FunctionKind, Marker, Parameter, Property, TypeDeclaration};
 use sx_types::Ty;

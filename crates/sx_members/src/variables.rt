@@ -1,15 +1,14 @@
 // Globals and properties, with their initial values.
 
-ghost use Rattle.std.specs.Prelude.{◌≡◌, [], Some, length};
+ghost use Rattle.std.specs.Prelude.{◌≡◌, Err, List, [], Some, length};
 ghost use Rattle.sx_functions.specs.Accessors.{run_accessors};
 ghost use Rattle.sx_functions.specs.Places.{new_name};
 ghost use Rattle.sx_members.specs.Variables as variables;
-ghost use Rattle.sx_scope.specs.Verdict.{Answers, Verdict, ◌▷◌, both, found, typed, typed_part};
+ghost use Rattle.sx_scope.specs.Verdict.{Answers, Verdict, ◌▷◌, both, fails, found, typed, typed_part};
 ghost use Rattle.sx_scope.specs.WrittenTypes.{judged_type};
 ghost use Rattle.sx_scope.specs.declared.declarations.Known.TheVariants as knows;
 ghost use Rattle.sx_scope.specs.declared.walk.Walk.{Walk};
 
-use crate::parts::joined;
 use indexmap::IndexSet;
 use sqlite_items::Items;
 use std::alloc::Global;
@@ -18,7 +17,7 @@ use sx_functions::{Accessed, OwnNames, accessors, new_name};
 use sx_heads::lacks_value;
 use sx_scope::{
     Asked, Declarations, Found, Gives, Known, Place, TypeKind, TypeStop, Use, VariableType, Walk,
-    is_void, known_of, type_written,
+    is_void, joined, known_of, type_written,
 };
 use sx_span::Node;
 use sx_tree::WrittenType;
@@ -393,7 +392,7 @@ fn kept_value(
 }
 
 /// The type that the initial value of a variable gives it, and that value. Where the variable has
-/// failed, what it failed by first stands.
+/// failed, what it failed by first is among its faults.
 fn given_parts(
     alloc: Global,
     declarations: &Declarations,
@@ -458,19 +457,44 @@ fn failed_parts(
 {
     match stop {
         None => depending_parts(alloc, declarations, walk, node, value),
-        Some(stop) => told_again(stop),
+        Some(stop) => match given_value(alloc, declarations, walk, node, value).err() {
+            None => told_again(stop),
+            Some(now) => told_earlier(stop, now),
+        },
     }
 }
 
-/// What is told again of a declaration that has failed by this.
+/// What is told of a declaration that failed by `first` and fails by `now`: the earlier of both.
+fn told_earlier(first: TypeStop, now: TypeStop) -> JudgedParts
+    ensures { (v : Verdict variables.VariableParts) (w : Walk) → Answers (Err now) w v → Answers result w (variables.kept knows.Failed (Some first) v) }
+{
+    if number_of(now) <= number_of(first) {
+        Err(now)
+    } else {
+        told_again(first)
+    }
+}
+
+/// What is told again of a declaration that has failed by this before.
 fn told_again(stop: TypeStop) -> JudgedParts
-    ensures { (v : Verdict variables.VariableParts) (w : Walk) → Answers result w (variables.kept knows.Failed (Some stop) v) }
+    ensures { (v : Verdict variables.VariableParts) (fs : List TypeStop) (w now : Walk) → v ≡ fails stop fs w → Answers result now v }
 {
     match stop {
         TypeStop::Typing(kind, node) => Err(TypeStop::Typing(kind, node)),
         TypeStop::TooWide(node) => Err(TypeStop::TooWide(node)),
         TypeStop::Late { .. } => Err(TypeStop::NoMemory),
         TypeStop::NoMemory => Err(TypeStop::NoMemory),
+    }
+}
+
+/// The number of the node at which something fails.
+fn number_of(stop: TypeStop) -> u32
+    ensures { result ≡ variables.number_of stop }
+{
+    match stop {
+        TypeStop::Typing(_, node) | TypeStop::TooWide(node) => node.0,
+        TypeStop::Late { at, .. } => at.0,
+        TypeStop::NoMemory => 0,
     }
 }
 

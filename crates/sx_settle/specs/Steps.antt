@@ -1,5 +1,5 @@
 -- What one judging of an initial value tells.
-use Rattle.std.specs.Prelude.{ℕ, suc, List, [], Option, Some, None, Result, Ok, Err, option_copied}
+use Rattle.std.specs.Prelude.{ℕ, suc, Bool, true, false, List, [], Option, Some, None, Result, Ok, Err, option_copied, cond}
 use Rattle.sx_span.specs.declared.places.Node.{Node}
 use Rattle.sx_tree.specs.declared.code.Expr.{Expr}
 use Rattle.sx_tree.specs.declared.declarations.Item.{Item}
@@ -17,7 +17,9 @@ use Rattle.sx_scope.specs.Verdict.{Verdict, typed, untold, depends, fails}
 use Rattle.sx_heads.specs.Heads.{at}
 use Rattle.sx_members.specs.Variables.{VariableParts, given_value}
 use Rattle.sx_settle.specs.declared.givings.Giving.{Giving as Held}
-use Rattle.sx_settle.specs.Settled.{Giving, Settling, giving_by, giving_members, settled_as}
+use Rattle.sx_settle.specs.declared.taking.Taking.{Taking}
+use Rattle.sx_settle.specs.declared.taking.Taking.TheVariants as takings
+use Rattle.sx_settle.specs.Settled.{Giving, Settling, giving_by, giving_members, settled_as, stays}
 
 -- a declaration that is held by reference
 abbrev pub given : Held → Giving
@@ -57,9 +59,18 @@ abbrev pub told_again : Declarations → Node → Option Expr → Option Told
 told_again d n None = None
 told_again d n (Some e) = told (given_value d n e (at (suc n.0)))
 
-abbrev pub told_of : Declarations → Known → Giving → Option Told
-told_of d known.Failed g = None
-told_of d k g = told_again d g.node g.value
+-- what is taken of what is told
+abbrev pub is_taken : Taking → Known → Option TypeStop → Bool
+is_taken takings.Certain known.Failed None = false
+is_taken takings.Depending known.Failed (Some f) = false
+is_taken q k o = true
+
+abbrev pub taken : Taking → Option Told → Option Told
+taken q None = None
+taken q (Some (k, o)) = cond (is_taken q k o) (Some (k, o)) None
+
+abbrev pub told_of : Taking → Declarations → Known → Option TypeStop → Giving → Option Told
+told_of q d k o g = cond (stays q k o) None (taken q (told_again d g.node g.value))
 
 abbrev pub settled_so : ℕ → Option Told → Settling → Settling
 settled_so i None s = s

@@ -4,9 +4,11 @@ ghost use Rattle.std.specs.Prelude.{◌≡◌, ◌≢◌, Err, IfOk, suc};
 ghost use Rattle.sx_heads.specs.Heads.{at};
 ghost use Rattle.sx_scope.specs.declared.stop.TypeStop.TheVariants.{NoMemory};
 ghost use Rattle.sx_members.specs.Variables.{given_value};
-ghost use Rattle.sx_settle.specs.Steps.{given, told, told_answer, told_found, told_of};
+ghost use Rattle.sx_settle.specs.Settled.{stays};
+ghost use Rattle.sx_settle.specs.Steps.{given, is_taken, taken, told, told_answer, told_found, told_of};
 
 use crate::givings::Giving;
+use crate::taking::Taking;
 use std::alloc::{AllocError, Global};
 use sx_members::given_value;
 use sx_scope::{Declarations, Found, Known, Stack, TypeStop, Walk};
@@ -21,21 +23,58 @@ type TypedParts = (Ty, Option<TypedExpr>);
 /// What is known from then on, and by what the declaration has failed first.
 pub type Told = (Known, Option<TypeStop>);
 
-/// What judging again tells of a declaration of which this is known. One that has failed stays so.
+/// What is taken of what judging again tells of a declaration of which this is known, and which has
+/// failed first by this stop, if by any. One that has failed stays so.
 pub fn told_of(
     alloc: Global,
     declarations: &Declarations,
+    taking: Taking,
     known: Known,
+    stop: Option<TypeStop>,
     giving: &Giving<'_>,
 ) -> Result<Option<Told>, AllocError>
-    ensures { IfOk result (λ o. o ≡ told_of declarations.now known (given giving.now)) }
+    ensures { IfOk result (λ o. o ≡ told_of taking declarations.now known stop (given giving.now)) }
 {
-    if let Known::Failed = known {
+    if stays(taking, known, stop) {
         return Ok(None);
     }
     match giving.value {
         None => Ok(None),
-        Some(value) => told_by(alloc, declarations, giving.node, value),
+        Some(value) => {
+            let told = told_by(alloc, declarations, giving.node, value)?;
+            Ok(taken(taking, told))
+        }
+    }
+}
+
+/// Whether a declaration isn't judged again. Where each counts as failed of which nothing is known,
+/// only one that has failed by something stays so.
+fn stays(taking: Taking, known: Known, stop: Option<TypeStop>) -> bool
+    ensures { result ≡ stays taking known stop }
+{
+    match taking {
+        Taking::Certain => stop.is_some(),
+        Taking::Depending | Taking::Everything => matches!(known, Known::Failed),
+    }
+}
+
+/// What is taken of what is told.
+fn taken(taking: Taking, told: Option<Told>) -> Option<Told>
+    ensures { result ≡ taken taking told }
+{
+    match told {
+        Some((known, stop)) if is_taken(taking, known, stop) => Some((known, stop)),
+        _ => None,
+    }
+}
+
+fn is_taken(taking: Taking, known: Known, stop: Option<TypeStop>) -> bool
+    ensures { result ≡ is_taken taking known stop }
+{
+    match (taking, known, stop) {
+        (Taking::Certain, Known::Failed, None) => false,
+        (Taking::Depending, Known::Failed, Some(_)) => false,
+        _ => true,
     }
 }
 

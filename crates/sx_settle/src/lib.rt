@@ -5,5 +5,6 @@ mod givings;
 mod judging;
 mod rounds;
 mod settling;
+mod taking;
 
 pub use settling::settle;

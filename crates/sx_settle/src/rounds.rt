@@ -3,11 +3,13 @@
 ghost use Rattle.std.specs.Prelude.{◌≡◌, IfOk, OnOk, Some, None, IsTrue, IsFalse, map, slice_get, slice_set};
 ghost use Rattle.sx_scope.specs.Names.{given_known};
 ghost use Rattle.sx_scope.specs.declared.declarations.Known.TheVariants as knowns;
+ghost use Rattle.sx_members.specs.Variables.{stop_of};
 ghost use Rattle.sx_settle.specs.Settled.{round_from, rounds, settled_as, settled_one, settling};
 ghost use Rattle.sx_settle.specs.Steps.{given};
 
 use crate::givings::Giving;
 use crate::judging::told_of;
+use crate::taking::Taking;
 use sqlite_items::Items;
 use std::alloc::{AllocError, Global};
 use sx_scope::{Declarations, Known, TypeStop};
@@ -19,53 +21,57 @@ pub fn settle_in_rounds(
     declarations: &mut Declarations,
     stops: &mut Items<Option<TypeStop>>,
     givings: &[Giving<'_>],
+    taking: Taking,
     count: usize,
 ) -> Result<(), AllocError>
-    ensures { OnOk result (settling declarations.new stops.new ≡ rounds count (map given givings.now) (settling declarations.old stops.old)) }
+    ensures { OnOk result (settling declarations.new stops.new ≡ rounds taking count (map given givings.now) (settling declarations.old stops.old)) }
 {
     let mut left = count;
     'rounds: while left > 0 {
         left -= 1;
-        if !settle_once(alloc, declarations, stops, givings)? {
+        if !settle_once(alloc, declarations, stops, givings, taking)? {
             return Ok(());
         }
     }
     Ok(())
 }
 
-/// Judges each again that hasn't failed, and tells whether anything has changed.
+/// Judges each again that doesn't stay as it is, and tells whether anything has changed.
 fn settle_once(
     alloc: Global,
     declarations: &mut Declarations,
     stops: &mut Items<Option<TypeStop>>,
     givings: &[Giving<'_>],
+    taking: Taking,
 ) -> Result<bool, AllocError>
-    ensures settled { OnOk result (settling declarations.new stops.new ≡ round_from 0 (map given givings.now) (settling declarations.old stops.old)) }
+    ensures settled { OnOk result (settling declarations.new stops.new ≡ round_from taking 0 (map given givings.now) (settling declarations.old stops.old)) }
     ensures still { IfOk result (λ changed. IsFalse changed → settling declarations.new stops.new ≡ settling declarations.old stops.old) }
 {
     let mut changed = false;
     'givings: for (number, giving) in givings.iter().enumerate() {
-        if settle_one(alloc, declarations, stops, number, giving)? {
+        if settle_one(alloc, declarations, stops, taking, number, giving)? {
             changed = true;
         }
     }
     Ok(changed)
 }
 
-/// Judges the declaration with this number again if it hasn't failed, and tells whether anything
-/// has changed.
+/// Judges the declaration with this number again if it doesn't stay as it is, and tells whether
+/// anything has changed.
 fn settle_one(
     alloc: Global,
     declarations: &mut Declarations,
     stops: &mut Items<Option<TypeStop>>,
+    taking: Taking,
     number: usize,
     giving: &Giving<'_>,
 ) -> Result<bool, AllocError>
-    ensures settled { OnOk result (settling declarations.new stops.new ≡ settled_one number (given giving.now) (settling declarations.old stops.old)) }
+    ensures settled { OnOk result (settling declarations.new stops.new ≡ settled_one taking number (given giving.now) (settling declarations.old stops.old)) }
     ensures still { IfOk result (λ changed. IsFalse changed → settling declarations.new stops.new ≡ settling declarations.old stops.old) }
 {
     let known = known_at(declarations.given.as_slice(), number);
-    match told_of(alloc, declarations, known, giving)? {
+    let stop = stop_at(stops.as_slice(), number);
+    match told_of(alloc, declarations, taking, known, stop, giving)? {
         Some((known, stop)) => Ok(settle_as(declarations, stops, number, known, stop)),
         None => Ok(false),
     }
@@ -136,6 +142,16 @@ fn known_at(given: &[Known], number: usize) -> Known
     match sqlite_items::at(given, number) {
         Some(known) => *known,
         None => Known::Untold,
+    }
+}
+
+/// By what the declaration with this number has failed first, if by anything.
+pub fn stop_at(stops: &[Option<TypeStop>], number: usize) -> Option<TypeStop>
+    ensures { result ≡ stop_of stops.now number }
+{
+    match stops.get(number) {
+        Some(stop) => *stop,
+        None => None,
     }
 }
 

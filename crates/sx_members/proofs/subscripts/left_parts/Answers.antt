@@ -1,8 +1,8 @@
 use Rattle.std.proofs.Common.{◌≡◌, ℕ, length, ap, sym, subst, ◌∙◌}
 use Rattle.sx_scope.specs.declared.walk.Walk.{Walk}
 use Rattle.sx_scope.specs.Verdict.{Answers, moved}
-use Rattle.sx_functions.specs.Places.{left}
-use Rattle.sx_members.specs.Members.{shortened, subscript_parts}
+use Rattle.sx_functions.specs.Places.{left, shortened}
+use Rattle.sx_members.specs.Members.{subscript_parts}
 use Rattle.sx_members.proofs.Moved.{moved_answers}
 use Rattle.sx_members.proofs.subscripts.left_parts.Goals as goal
 

@@ -5,7 +5,7 @@ use Rattle.sx_settle.proofs.rounds.settle_in_rounds.Given as goal
 
 abbrev pub invariant-rounds : goal.invariant-rounds
 invariant-rounds l =
-    rounds l.left (map given l.givings) (settling l.declarations l.stops) ≡ rounds l.fn.count (map given l.fn.givings) (settling l.fn.declarations l.fn.stops)
+    rounds l.taking l.left (map given l.givings) (settling l.declarations l.stops) ≡ rounds l.fn.taking l.fn.count (map given l.fn.givings) (settling l.fn.declarations l.fn.stops)
 
 abbrev pub decreases-rounds : goal.decreases-rounds
 decreases-rounds l = l.left
