@@ -1,0 +1,13 @@
+pub mod Rising
+pub mod Spans
+pub mod Lists
+pub mod WrittenTypes
+pub mod Values
+pub mod Names
+pub mod Callees
+pub mod Operators
+pub mod Arguments
+pub mod Calls
+pub mod Subscripts
+pub mod Places
+pub mod Own

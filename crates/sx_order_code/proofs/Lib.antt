@@ -1,0 +1,15 @@
+pub mod Rolled
+pub mod Statements
+pub mod Locals
+pub mod Assignments
+pub mod Branches
+pub mod Expressions
+pub mod Parameters
+pub mod Literals
+pub mod Postfix
+pub mod Signatures
+pub mod Known
+pub mod Forms
+pub mod StatementForms
+pub mod Tree
+pub mod Whole

@@ -1,0 +1,4 @@
+pub mod Code
+pub mod Signatures
+pub mod Tied
+pub mod Layers

@@ -1,0 +1,5 @@
+pub mod Counts
+pub mod Starts
+pub mod Stops
+pub mod Written
+pub mod Laws
