@@ -48,6 +48,63 @@ def many_names():
         number += 1
 
 
+def numbered(unit, tokens, head="", head_tokens=40):
+    """The same of units that are made of their number, from 0 on, behind a head of at most so many tokens."""
+    pieces, size, number = [head], len(head), 0
+    while number < (MOST_TOKENS - head_tokens) // tokens:
+        piece = unit(number)
+        if size + len(piece) > MOST:
+            break
+        pieces.append(piece)
+        size += len(piece)
+        number += 1
+    return "".join(pieces).ljust(MOST)
+
+
+def many_functions():
+    return numbered(lambda i: f"func f{i}(){{}}\n", 6)
+
+
+def functions_that_call():
+    return numbered(lambda i: f"func f{i}(){{f{i // 2}()}}\n", 9)
+
+
+def many_globals():
+    return numbered(lambda i: f"let a{i}=1\n", 4)
+
+
+def globals_from_globals():
+    return numbered(lambda i: f"let a{i}=a{i - 1}\n" if i else "let a0=1\n", 4)
+
+
+def fields_used_everywhere():
+    fields = "".join(f"var a{i}=0;" for i in range(1024))
+    return numbered(lambda i: f"s.a{i % 1024}=s.a{i * 7 % 1024}\n", 7, "struct S{" + fields + "}\nvar s=S()\n", 5140)
+
+
+def structures_in_structures():
+    return numbered(lambda i: f"struct S{i}{{var a:S{i - 1};func f(){{}}}}\n" if i else "struct S0{var a:Int}\n", 15)
+
+
+def initial_values_of_structures():
+    return numbered(lambda i: f"struct S{i}{{var a=S{i - 1}()}}\n" if i else "struct S0{var a=1}\n", 10)
+
+
+def closures_in_closures():
+    deep = 180
+    unit = "a={()->Void in " * deep + "a()" + "}" * deep + "\n"
+    return filled(unit, 9 * deep + 4, "var a:()->Void={}\n")
+
+
+def wide_globals():
+    fields = "".join(f"var a{i}=0;" for i in range(1024))
+    return numbered(lambda i: f"var g{i}=S()\n", 6, "struct S{" + fields + "}\n", 5140)
+
+
+def names_declared_again():
+    return filled("let a = 1\n", 4)
+
+
 def long_comments():
     return filled("/* " + "comment " * 100 + "*/\n", 1, "print(1)\n")
 
@@ -58,7 +115,10 @@ def long_literals():
 
 TEXTS = [("short statements", short_statements), ("tokens", tokens_without_space), ("deep nesting", deep_nesting),
          ("one long chain", long_chain), ("many names", many_names), ("long comments", long_comments),
-         ("long literals", long_literals)]
+         ("long literals", long_literals), ("functions", many_functions), ("calls", functions_that_call),
+         ("globals", many_globals), ("given globals", globals_from_globals), ("fields", fields_used_everywhere),
+         ("structures", structures_in_structures), ("given structures", initial_values_of_structures),
+         ("closures", closures_in_closures), ("wide globals", wide_globals), ("one name", names_declared_again)]
 
 
 def measured(words):

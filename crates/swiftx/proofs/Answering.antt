@@ -18,12 +18,12 @@ use Rattle.swiftx.proofs.Settle.{has_bytes, said_settled}
 use Rattle.swiftx.specs.declared.outcome.Outcome.{Outcome}
 use Rattle.swiftx.specs.declared.outcome.Outcome.TheVariants.{Done, Exited, Usage, Refused, ElfRefused, Budget, MachineFault, StoreFault, SinkFault, NoMemory}
 use Rattle.sx_driver.specs.Faults.{IsFault}
-use Rattle.sx_driver.specs.Lines.{fault_line, kind_word, placed}
+use Rattle.sx_driver.specs.Lines.{fault_line, kind_word, type_word, line_and_column, placed}
 use Rattle.sx_span.specs.Lines.{line_col_of, line_starts}
 use Rattle.sx_span.specs.declared.places.LineCol.{LineCol}
 use Rattle.std.specs.Fmt.{decimal}
 use Rattle.sx_driver.specs.declared.fault.Fault.{Fault}
-use Rattle.sx_driver.specs.declared.fault.Fault.TheVariants.{TooLong, Encoding, Lexical, TooManyTokens, Syntax, TooDeep, Unbuilt}
+use Rattle.sx_driver.specs.declared.fault.Fault.TheVariants.{TooLong, Encoding, Lexical, TooManyTokens, Syntax, TooDeep, Typing, TooWide, Late, Unbuilt}
 use Rattle.swiftx.specs.declared.bench.Bench.{Bench}
 
 -- an outcome that can be due: no put failed, and memory sufficed
@@ -161,6 +161,9 @@ fault_has_bytes text (Lexical kind at) = placed_has_bytes (line_col_of (line_sta
 fault_has_bytes text (TooManyTokens at) = placed_has_bytes (line_col_of (line_starts text) at) (codes " too-many-tokens" ++ 10 ∷ [])
 fault_has_bytes text (Syntax at) = placed_has_bytes (line_col_of (line_starts text) at) (codes " syntax" ++ 10 ∷ [])
 fault_has_bytes text (TooDeep at) = placed_has_bytes (line_col_of (line_starts text) at) (codes " too-deep" ++ 10 ∷ [])
+fault_has_bytes text (Typing kind at) = placed_has_bytes (line_col_of (line_starts text) at) (codes " type " ++ (type_word kind ++ 10 ∷ []))
+fault_has_bytes text (TooWide at) = placed_has_bytes (line_col_of (line_starts text) at) (codes " too-wide" ++ 10 ∷ [])
+fault_has_bytes text (Late at global) = placed_has_bytes (line_col_of (line_starts text) at) (codes " late-global with " ++ line_and_column (line_col_of (line_starts text) global) (10 ∷ []))
 fault_has_bytes text Unbuilt = has_bytes 101 (codes "rror unbuilt" ++ 10 ∷ []) (codes "error unbuilt" ++ 10 ∷ []) refl
 
 -- the words are no command

@@ -17,8 +17,8 @@ use Rattle.sx_rv_machine.specs.declared.machine.Ending.{Ending as MachineEnding}
 use Rattle.sx_rv_machine.specs.declared.machine.Ending.TheVariants.{Exits, Faults}
 use Rattle.swiftx.specs.declared.outcome.Outcome.{Outcome}
 use Rattle.swiftx.specs.declared.outcome.Outcome.TheVariants.{Done, Exited, Usage, Refused, ElfRefused, Budget, MachineFault, StoreFault, SinkFault, NoMemory}
-use Rattle.sx_tree.specs.declared.tree.Tree.{Tree}
-use Rattle.sx_driver.specs.Faults.{HasTree, IsFault}
+use Rattle.sx_typed.specs.declared.program.Typed.{Typed}
+use Rattle.sx_driver.specs.Faults.{HasTyped, IsFault}
 use Rattle.sx_driver.specs.Lines.{fault_line as refusal_line}
 use Rattle.sx_driver.specs.declared.fault.Fault.{Fault}
 use Rattle.sx_driver.specs.declared.fault.Fault.TheVariants.{Unbuilt}
@@ -112,17 +112,17 @@ ends_as NoMemory = None
 pub data CheckDue (text : List ℕ) : Due → Type 0 where
   -- the text breaks a rule, this one first
   faulty : (fault : Fault) → IsFault text fault → CheckDue text (refusal_due text fault)
-  -- the text has a tree
-  sound : (tree : Tree) → HasTree text tree → CheckDue text (nothing_due Done)
+  -- the text has a typed tree
+  sound : (typed : Typed) → HasTyped text typed → CheckDue text (nothing_due Done)
 
 -- what is due for a text that is to be run
 pub data TextDue (text : List ℕ) (steps : ℕ) : Due → Type 0 where
   -- the text breaks a rule, this one first
   refused : (fault : Fault) → IsFault text fault → TextDue text steps (refusal_due text fault)
-  -- the text has a tree, and is no text of prints
-  unbuilt : (tree : Tree) → HasTree text tree → PrintsNothing text → TextDue text steps (refusal_due text Unbuilt)
+  -- the text has a typed tree, and is no text of prints
+  unbuilt : (typed : Typed) → HasTyped text typed → PrintsNothing text → TextDue text steps (refusal_due text Unbuilt)
   -- the text is built and run
-  ran : (tree : Tree) → HasTree text tree → (file : List ℕ) (outcome : Outcome) → IsBuilt text file → ends_as outcome ≡ Some (shown (target file) steps).ending → TextDue text steps (run_due outcome file steps)
+  ran : (typed : Typed) → HasTyped text typed → (file : List ℕ) (outcome : Outcome) → IsBuilt text file → ends_as outcome ≡ Some (shown (target file) steps).ending → TextDue text steps (run_due outcome file steps)
 
 -- what is due for an executable that was read
 pub data ElfDue (file : List ℕ) (steps : ℕ) : Due → Type 0 where

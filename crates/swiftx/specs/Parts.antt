@@ -6,8 +6,8 @@ use Rattle.sx_rv_machine.specs.Put.{Told, Grew, BrokeOff}
 use Rattle.swiftx.specs.Answer.{Completed, Broken}
 use Rattle.swiftx.specs.Due.{Due, CheckDue, TextDue, ElfDue, ReadDue, run_due, exec_due, ends_as}
 use Rattle.swiftx.specs.Source.{source}
-use Rattle.sx_tree.specs.declared.tree.Tree.{Tree}
-use Rattle.sx_driver.specs.Faults.{HasTree, IsFault, IsPlaced}
+use Rattle.sx_typed.specs.declared.program.Typed.{Typed}
+use Rattle.sx_driver.specs.Faults.{HasTyped, IsFault, IsPlaced}
 use Rattle.sx_driver.specs.Lines.{fault_line}
 use Rattle.sx_driver.specs.declared.fault.Fault.{Fault}
 use Rattle.swiftx.specs.Lines.{elf_line}
@@ -57,9 +57,9 @@ pub record CheckSettled (text : List ℕ) (out out' err err' : Told) (bench : Be
   pub is : CheckDue text due
   pub settled : Settled due out out' err err' bench result
 
--- the text breaks this rule first, or it has a tree
+-- the text breaks this rule first, or it has a typed tree
 abbrev pub Judged : List ℕ → Option Fault → Type 0
-Judged text None = (tree : Tree) × HasTree text tree
+Judged text None = (typed : Typed) × HasTyped text typed
 Judged text (Some fault) = IsFault text fault × IsPlaced text fault
 
 -- the line of a fault of the text stands at the end of the second output, or its put failed

@@ -9,7 +9,7 @@ use crate::bench::Bench;
 use crate::messages::say;
 use crate::outcome::Outcome;
 use std::alloc::{AllocError, Global};
-use sx_driver::{CompileStop, Fault, fault_line, tree_of};
+use sx_driver::{CompileStop, Fault, fault_line, typed_of};
 use sx_io::Sink;
 
 /// Refuses a text, or accepts it.
@@ -34,12 +34,12 @@ pub(crate) fn check_text<O: Sink, E: Sink>(
     }
 }
 
-/// The first rule that a text breaks. The tree of a text without fault is let go.
+/// The first rule that a text breaks. The typed tree of a text without fault is let go.
 pub(crate) fn fault_of(alloc: Global, text: &[u8]) -> Result<Option<Fault>, AllocError>
     ensures { IfOk result (Judged text.now) }
 {
-    match tree_of(alloc, text) {
-        Ok(_tree) => Ok(None),
+    match typed_of(alloc, text) {
+        Ok(_typed) => Ok(None),
         Err(CompileStop::Refused(fault)) => Ok(Some(fault)),
         Err(CompileStop::NoMemory) => Err(AllocError),
     }

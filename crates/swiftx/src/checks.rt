@@ -6,6 +6,7 @@ use std::process::Abort;
 use std::test::Fail;
 use sx_driver::Fault;
 use sx_lexer::LexKind;
+use sx_scope::TypeKind;
 
 /// So many times these bytes, one behind the other.
 fn repeated(alloc: Global, piece: &[u8], times: u32) -> Result<Vec<u8>, AllocError> {
@@ -126,20 +127,69 @@ fn texts_that_nest(rt: HostRuntime) -> Result<(), Fail> {
 }
 
 #[test]
-fn each_form_is_read(rt: HostRuntime) -> Result<(), Fail> {
+fn each_form_is_read_and_typed(rt: HostRuntime) -> Result<(), Fail> {
     let alloc = rt.alloc();
     is_sound(
         &rt,
         alloc,
         b"class C { var p: Int { get { return 1 } set(v) { print(v) } }; var q = 1 { didSet { } }\n\
-          subscript(i: Int, j: Int) -> Int { i } }\n\
-          struct S { var x = 0; mutating func g() { self.x += 1 } }\n\
-          func f(_ a: inout Int, b c: @escaping (Int, inout Bool) -> () -> Void, d: Int) -> Int {\n\
-          if a == 1 { return 2 } else if a != 3 { a -= 1 } else { while !b { break; continue } }\n\
-          let y: Int = -a * 3 % 2 - 1; return y }\n\
-          let k = { (a: Int, b: inout Bool) -> Int in a }; let m = { a, b in a }; let n = { (a + 1) * b }\n\
+          subscript(i: Int, j: Int) -> S { S(b: i * j) } }\n\
+          struct S { var x = 0; var b: Int; mutating func g() { self.x += 1 } }\n\
+          func f(_ a: inout Int, b c: @escaping () -> Void, _ d: (Int) -> Int) -> Int {\n\
+          if a == 1 { return 2 } else if a != 3 { a -= 1 } else { while !(a < 5) { break; continue } }\n\
+          let y: Int = -a * 3 % 2 - 1; c(); return d(y) }\n\
+          let k = { (a: Int, b: inout Bool) -> Int in a }; var n: (Int) -> Int = { m in m + 1 }\n\
           var z: Int { 5 }\n\
-          f(&a[1, 2].b, b: { print(\"x\") }) { x in z }\n\
-          a.b(3) { }.d = (1 + 2) * -9223372036854775808 < 4 && true || a === b\n",
+          let a = C(); var s = a[1, 2]; s.g()\n\
+          f(&s.b, b: { print(\"x\") }) { x in z + x }\n\
+          a.p = n(3) + (1 + 2) * -9223372036854775808\n\
+          print(s.x < 4 && true || a === a)\n",
+    )
+}
+
+#[test]
+fn the_first_failing_node_is_told(rt: HostRuntime) -> Result<(), Fail> {
+    let alloc = rt.alloc();
+    is_refused(
+        &rt,
+        alloc,
+        b"print(q)",
+        Fault::Typing(TypeKind::UnknownName, 6),
+        b"error 1:7 type unknown-name\n",
+    )?;
+    is_refused(
+        &rt,
+        alloc,
+        b"let a = 1\nfunc f() -> Int { }\nlet a = b",
+        Fault::Typing(TypeKind::MissingReturn, 15),
+        b"error 2:6 type missing-return\n",
+    )?;
+    // The later fault of a value is the earlier one of the text.
+    is_refused(
+        &rt,
+        alloc,
+        b"let a = S(x: true, y: 1 + true)\nstruct S { var x = 1; var y = 2 }",
+        Fault::Typing(TypeKind::Mismatch, 13),
+        b"error 1:14 type mismatch\n",
+    )?;
+    // A parameter that is declared twice stands at its name, though it is no node.
+    is_refused(
+        &rt,
+        alloc,
+        b"struct S { subscript(i: Int) -> Int { get { i } set(i) { } } }",
+        Fault::Typing(TypeKind::Duplicate, 52),
+        b"error 1:53 type duplicate\n",
+    )
+}
+
+#[test]
+fn a_global_reached_too_late_is_told(rt: HostRuntime) -> Result<(), Fail> {
+    let late = Fault::Late { at: 22, global: 30 };
+    is_refused(
+        &rt,
+        rt.alloc(),
+        b"func f() { print(g) }\nf()\nvar g = 1",
+        late,
+        b"error 2:1 late-global with 3:5\n",
     )
 }

@@ -1,10 +1,10 @@
 -- The places of faults lie in the text, or at its end.
-use Rattle.std.proofs.Common.{◌≡◌, ℕ, zero, suc, ◌≤◌, List, [], ◌∷◌, length, drop, sym, subst, ap, arith, refl}
+use Rattle.std.proofs.Common.{◌≡◌, ℕ, zero, suc, ◌≤◌, List, [], ◌∷◌, drop, sym, subst, arith, refl}
 use Rattle.sx_token.specs.declared.kinds.Token.{Token}
 use Rattle.sx_token.specs.declared.token_list.Tokens.{Tokens}
 use Rattle.sx_token.specs.Sound.{RiseTo}
 use Rattle.sx_grammar.specs.declared.lexemes.Lexeme.{Lexeme}
-use Rattle.sx_grammar.specs.Grammar.{Grammar, Front}
+use Rattle.sx_grammar.specs.Grammar.{Grammar}
 use Rattle.sx_grammar.specs.Lexemes.{lexemes}
 use Rattle.sx_grammar.specs.Rules.{body}
 use Rattle.sx_grammar.specs.Answer.{IsTooDeep, opens_too_much, is_blocked}
