@@ -8,8 +8,6 @@
 
 mod fault;
 mod front;
-#[cfg(test)]
-mod tests;
 mod typing;
 
 pub use fault::{CompileStop, Fault, fault_line};

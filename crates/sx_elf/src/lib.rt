@@ -23,6 +23,3 @@ pub use layout::write;
 pub use loadable::{Loadable, Segment};
 pub use no_memory::NoMemory;
 pub use reading::{read, read_of_write};
-
-#[cfg(test)]
-mod tests;

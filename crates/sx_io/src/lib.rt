@@ -23,6 +23,3 @@ pub use real_sink::RealSink;
 pub use real_store::RealStore;
 pub use sink::{NullSink, Sink, SinkStop};
 pub use store::{Store, StoreStop};
-
-#[cfg(test)]
-mod tests;

@@ -8,8 +8,6 @@ mod bodies;
 mod expressions;
 mod mentions;
 mod reaching;
-#[cfg(test)]
-mod tests;
 
 pub use mentions::{Mentioned, Purpose};
 pub use reaching::{LateReach, late};

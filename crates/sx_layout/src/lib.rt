@@ -3,8 +3,6 @@
 
 mod holding;
 mod measuring;
-#[cfg(test)]
-mod tests;
 mod walking;
 
 pub use holding::holding_themselves;

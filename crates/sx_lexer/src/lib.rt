@@ -22,8 +22,6 @@ mod pieces;
 mod place;
 mod spacing;
 mod tables;
-#[cfg(test)]
-mod tests;
 mod texts;
 mod words;
 

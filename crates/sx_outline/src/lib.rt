@@ -4,8 +4,6 @@
 mod code;
 mod declarations;
 mod outline;
-#[cfg(test)]
-mod tests;
 mod types;
 mod visit;
 

@@ -11,8 +11,6 @@ mod heads;
 mod lexing;
 mod parameter_lists;
 mod stop;
-#[cfg(test)]
-mod tests;
 mod types;
 
 pub use cursor::{

@@ -15,6 +15,3 @@ pub use laws::{
     items_lie_in_parts, jump_arrives, labels_have_places,
 };
 pub use no_memory::NoMemory;
-
-#[cfg(test)]
-mod tests;

@@ -27,6 +27,3 @@ pub use instructions::{
     BranchOp, ImmediateOp, Instr, LoadOp, RegisterOp, ShiftOp, ShiftWordOp, StoreOp, SystemOp,
     UpperOp,
 };
-
-#[cfg(test)]
-mod tests;

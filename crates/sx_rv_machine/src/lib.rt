@@ -15,6 +15,3 @@ pub use loading::load;
 pub use machine::{Ending, Event, Machine, pc, step};
 pub use no_memory::NoMemory;
 pub use runs::{RunEnd, run};
-
-#[cfg(test)]
-mod tests;

@@ -13,8 +13,6 @@ mod paths;
 mod stack;
 mod stop;
 mod table;
-#[cfg(test)]
-mod tests;
 mod variables;
 mod walk;
 mod written;

@@ -5,8 +5,6 @@
 
 mod lines;
 mod places;
-#[cfg(test)]
-mod tests;
 
 pub use lines::{ends_line, line_col, line_of};
 pub use places::{LineCol, Node, Site, Span};

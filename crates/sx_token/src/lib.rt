@@ -6,8 +6,6 @@
 
 mod kinds;
 mod spellings;
-#[cfg(test)]
-mod tests;
 mod token_list;
 
 pub use kinds::{Kind, Token};

@@ -21,8 +21,6 @@ mod code;
 mod declarations;
 mod nodes;
 mod operators;
-#[cfg(test)]
-mod tests;
 mod tree;
 mod written_types;
 

@@ -12,8 +12,6 @@
 mod code;
 mod program;
 mod storage;
-#[cfg(test)]
-mod tests;
 
 pub use code::{
     Accessors, Argument, Arithmetic, Block, Component, ComponentForm, Expr, Form, Given,

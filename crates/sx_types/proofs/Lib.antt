@@ -1,5 +1,4 @@
 mod Alike
-mod Counted
 mod Gained
 pub mod Nesting
 mod Same

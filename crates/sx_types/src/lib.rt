@@ -6,8 +6,6 @@
 
 mod functions;
 mod listed;
-#[cfg(test)]
-mod tests;
 mod types;
 mod widths;
 
