@@ -1,8 +1,8 @@
 -- What the answer tells of a tree.
-use Rattle.std.proofs.Common.{◌≡◌, inl, inr, List, [], None, Some, Result, Ok, Err, refl, sym, ap, ◌∙◌, subst}
+use Rattle.std.proofs.Common.{◌≡◌, inl, inr, List, None, Result, Ok, Err, refl, sym, subst}
 use Rattle.sx_check_decl.specs.Captures.{crowded}
 use Rattle.sx_check_decl.specs.Checked.{IsSettled}
-use Rattle.sx_check_decl.specs.Items.{no_program, program, run_items}
+use Rattle.sx_check_decl.specs.Looks.{judged}
 use Rattle.sx_check_decl.specs.Program.{Checked, IsLateAt, IsTyped, Judges, Tells, TellsCrowded, TellsLate}
 use Rattle.sx_check_decl.specs.Special.{own_names, special_names}
 use Rattle.sx_check_decl.specs.declared.items.Program.{Program}
@@ -12,16 +12,11 @@ use Rattle.sx_heads.specs.Heads.{at}
 use Rattle.sx_late.specs.Reaching.{NoneLate}
 use Rattle.sx_scope.specs.declared.stop.TypeStop.{TypeStop}
 use Rattle.sx_scope.specs.declared.stop.TypeStop.TheVariants.{Typing, TooWide, Late, NoMemory}
-use Rattle.sx_scope.specs.declared.walk.Local.{Local}
 use Rattle.sx_scope.specs.declared.walk.Walk.{Walk}
 use Rattle.sx_scope.specs.Verdict.{Answers, Verdict, typed}
 use Rattle.sx_span.specs.declared.places.Node.{Node}
 use Rattle.sx_tables.specs.declared.names.SpecialNames.{SpecialNames}
-use Rattle.sx_tables.specs.Names.{no_numbers}
-use Rattle.sx_tree.specs.declared.declarations.Item.{Item}
 use Rattle.sx_tree.specs.declared.tree.Tree.{Tree}
-use Rattle.sx_typed.specs.declared.program.Function.{Function}
-use Rattle.sx_typed.specs.declared.program.Mention.{Mention}
 use Rattle.sx_typed.specs.declared.program.Typed.{Typed}
 use Rattle.sx_types.specs.declared.types.Types.{Types}
 
@@ -63,33 +58,18 @@ failing_told tree types (TooWide n) now v h = inl h
 failing_told tree types (Late at global) now v h = absurd h
 failing_told tree types NoMemory now v h = tt
 
-judged : (tree : Tree) (r : Result Typed TypeStop) → Judges tree r → Checked tree r
-judged tree (Ok t) h = h
-judged tree (Err (Typing kind n)) h = h
-judged tree (Err (TooWide n)) h = h
-judged tree (Err (Late at global)) h = h
-judged tree (Err NoMemory) h = tt
+checked : (tree : Tree) (r : Result Typed TypeStop) → Judges tree r → Checked tree r
+checked tree (Ok t) h = h
+checked tree (Err (Typing kind n)) h = h
+checked tree (Err (TooWide n)) h = h
+checked tree (Err (Late at global)) h = h
+checked tree (Err NoMemory) h = tt
 
 -- of a tree, by what is told of its items
-pub tree_told : (tree : Tree) (s : SpecialNames) (own : OwnNames) (x : Settled) (r : Result Typed TypeStop) → s ≡ special_names tree.names.items → own ≡ own_names tree.names.items → IsSettled s tree.items x → Tells tree x.declarations.types r (program x own tree.items) → Checked tree r
+pub tree_told : (tree : Tree) (s : SpecialNames) (own : OwnNames) (x : Settled) (r : Result Typed TypeStop) → s ≡ special_names tree.names.items → own ≡ own_names tree.names.items → IsSettled s tree.items x → Tells tree x.declarations.types r (judged x own tree.items) → Checked tree r
 tree_told tree s own x r special_is own_is settled told =
-    judged tree r (
+    checked tree r (
       x,
       subst (λ (z : SpecialNames). IsSettled z tree.items x) special_is settled,
-      subst (λ (z : OwnNames). Tells tree x.declarations.types r (program x z tree.items)) own_is told,
+      subst (λ (z : OwnNames). Tells tree x.declarations.types r (judged x z tree.items)) own_is told,
     )
-
--- the items of a tree, judged from its start
-pub started : (x : Settled) (own : OwnNames) (items items' : List Item) (w : Walk) → items' ≡ items → w ≡ at 0 → run_items x own (typed no_program w) [] no_numbers (Some 0) items' ≡ program x own items
-started x own items items' w same start =
-    ap (λ (is : List Item). run_items x own (typed no_program w) [] no_numbers (Some 0) is) same
-    ∙ ap (λ (v : Walk). run_items x own (typed no_program v) [] no_numbers (Some 0) items) start
-
-abbrev pub walk_of : List Local → List Mention → List Function → Walk
-walk_of ls ms fs = record { next = 0; locals = ls; mentions = ms; literals = fs }
-
-pub at_start : (ls : List Local) (ms : List Mention) (fs : List Function) → ls ≡ [] → ms ≡ [] → fs ≡ [] → walk_of ls ms fs ≡ at 0
-at_start ls ms fs a b c =
-    ap (λ (xs : List Local). walk_of xs ms fs) a
-    ∙ ap (λ (xs : List Mention). walk_of [] xs fs) b
-    ∙ ap (λ (xs : List Function). walk_of [] [] xs) c

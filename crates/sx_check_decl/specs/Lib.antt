@@ -4,4 +4,5 @@ pub mod Fields
 pub mod Locals
 pub mod Special
 pub mod Checked
+pub mod Looks
 pub mod Program

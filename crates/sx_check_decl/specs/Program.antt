@@ -7,6 +7,7 @@ use Rattle.sx_types.specs.declared.types.Types.{Types}
 use Rattle.sx_typed.specs.declared.program.Function.{Function}
 use Rattle.sx_typed.specs.declared.program.Global.{Global as StoredGlobal}
 use Rattle.sx_typed.specs.declared.program.Typed.{Typed}
+use Rattle.sx_scope.specs.declared.declarations.Declarations.{Declarations}
 use Rattle.sx_scope.specs.declared.stop.TypeStop.{TypeStop}
 use Rattle.sx_scope.specs.declared.stop.TypeStop.TheVariants.{Typing, TooWide, Late, NoMemory}
 use Rattle.sx_scope.specs.declared.walk.Walk.{Walk}
@@ -17,8 +18,8 @@ use Rattle.sx_check_decl.specs.declared.items.Program.{Program}
 use Rattle.sx_check_decl.specs.declared.items.Settled.{Settled}
 use Rattle.sx_check_decl.specs.Captures.{crowded}
 use Rattle.sx_check_decl.specs.Checked.{IsSettled}
-use Rattle.sx_check_decl.specs.Items.{program}
 use Rattle.sx_check_decl.specs.Locals.{AreInOrder, variables_of}
+use Rattle.sx_check_decl.specs.Looks.{judged, plain}
 use Rattle.sx_check_decl.specs.Special.{own_names, special_names}
 
 -- ---- the typed tree
@@ -100,12 +101,16 @@ module _ (tree : Tree) (types : Types) where
   Tells (Err (Late at global)) v = IsLateBy at global v
   Tells (Err NoMemory) v = Unit {0}
 
+-- what a tree declares, where each declaration that has failed counts so
+abbrev pub AreDeclared : Tree → Declarations → Type 0
+AreDeclared tree d = (x : Settled) × IsSettled (special_names tree.names.items) tree.items x × (d ≡ (plain x).declarations)
+
 -- some declarations that are settled by the tree judge its items so
 abbrev pub Judges : Tree → Result Typed TypeStop → Type 0
 Judges tree r =
     (x : Settled)
     × IsSettled (special_names tree.names.items) tree.items x
-    × Tells tree x.declarations.types r (program x (own_names tree.names.items) tree.items)
+    × Tells tree x.declarations.types r (judged x (own_names tree.names.items) tree.items)
 
 abbrev pub Checked : Tree → Result Typed TypeStop → Type 0
 Checked tree (Ok t) = Judges tree (Ok t)

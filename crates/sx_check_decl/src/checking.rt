@@ -8,14 +8,15 @@ ghost use Rattle.sx_scope.specs.Verdict.{typed};
 ghost use Rattle.sx_typed.specs.Functions.{RiseByNode};
 
 use crate::captures::crowded;
-use crate::items::{Program, judge_items};
+use crate::items::Program;
 use crate::locals::variables_of;
+use crate::looks::{at_start, judge_program};
 use crate::settling::settled;
 use crate::special::{own_names, special_names};
 use sqlite_items::Items;
 use std::alloc::{AllocError, Global};
 use sx_late::{LateReach, late};
-use sx_scope::{Found, Stack, TypeStop, Walk};
+use sx_scope::{Found, TypeStop, Walk};
 use sx_span::Node;
 use sx_tree::Tree;
 use sx_typed::{Function, Typed};
@@ -31,14 +32,9 @@ pub fn check(alloc: Global, tree: &Tree) -> Result<Typed, TypeStop>
 {
     let special = special_names(tree.names.as_slice())?;
     let own = own_names(tree.names.as_slice())?;
-    let settled = settled(alloc, special, tree.items.as_slice())?;
-    let mut walk = Walk {
-        next: 0,
-        locals: Stack::new(alloc),
-        mentions: Stack::new(alloc),
-        literals: Stack::new(alloc),
-    };
-    match judge_items(alloc, &settled, own, &mut walk, tree.items.as_slice())? {
+    let mut settled = settled(alloc, special, tree.items.as_slice())?;
+    let mut walk = at_start(alloc);
+    match judge_program(alloc, &mut settled, own, &mut walk, tree.items.as_slice())? {
         Found::Typed(program) => {
             finished(alloc, tree, settled.declarations.types, program, walk)
         }

@@ -6,8 +6,10 @@ mod checking;
 mod fields;
 mod items;
 mod locals;
+mod looks;
 mod settling;
 mod special;
 
 pub use checking::check;
 pub use items::{JudgedProgram, Program, Settled, TypedItem};
+pub use looks::declarations_of;

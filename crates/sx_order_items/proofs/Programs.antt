@@ -1,15 +1,13 @@
 -- A program whose declarations are settled: its faults rise, the first has the least number, and all lie among its nodes.
-use Rattle.std.proofs.Common.{◌≡◌, ◌+◌, ◌≤◌, List, All, Err, is_some, length, map, slice_get, sym, subst, ap, arith}
+use Rattle.std.proofs.Common.{◌≡◌, ◌+◌, ◌≤◌, ℕ, List, [], All, Option, Some, None, is_some, length, map, slice_get, sym, subst, ap, arith}
 use Rattle.sx_span.specs.declared.places.Node.{Node}
+use Rattle.sx_tree.specs.declared.code.Expr.{Expr}
 use Rattle.sx_tree.specs.declared.declarations.Item.{Item}
 use Rattle.sx_tree.specs.Nodes.{all_places}
 use Rattle.sx_scope.specs.declared.declarations.Declarations.{Declarations}
-use Rattle.sx_scope.specs.declared.stop.TypeKind.{TypeKind}
 use Rattle.sx_scope.specs.declared.stop.TypeStop.{TypeStop}
-use Rattle.sx_scope.specs.declared.stop.TypeStop.TheVariants.{Typing}
-use Rattle.sx_tree.specs.declared.tree.Tree.{Tree}
 use Rattle.sx_scope.specs.declared.walk.Walk.{Walk}
-use Rattle.sx_scope.specs.Verdict.{behind, fails}
+use Rattle.sx_scope.specs.Verdict.{Verdict, typed, untold, depends, fails}
 use Rattle.sx_scope.specs.Walks.{node}
 use Rattle.sx_outline.specs.Outline.{nothing_visited}
 use Rattle.sx_tables.specs.declared.names.SpecialNames.{SpecialNames}
@@ -17,21 +15,41 @@ use Rattle.sx_tables.specs.Names.{no_numbers}
 use Rattle.sx_functions.specs.declared.accessing.OwnNames.{OwnNames}
 use Rattle.sx_settle.specs.Settled.{Giving, Settling, giving_items, settled, unsettled}
 use Rattle.sx_check_decl.specs.declared.items.Settled.{Settled}
-use Rattle.sx_check_decl.specs.Special.{own_names, special_names}
 use Rattle.sx_check_decl.specs.Checked.{IsSettled, declared, outline, type_meant}
 use Rattle.sx_check_decl.specs.Items.{program}
-use Rattle.sx_check_decl.specs.Program.{Checked}
+use Rattle.sx_check_decl.specs.Looks.{judged, plain, unless_told}
+use Rattle.sx_check_decl.specs.declared.items.Program.{Program}
 use Rattle.sx_order.specs.Order.{Lies, Spans, Anything, number_of}
-use Rattle.sx_order.proofs.Spans.{behind-is, first-is-least}
+use Rattle.sx_order.proofs.Spans.{first-is-least}
 use Rattle.sx_order_code.specs.Code.{CodeSpans}
-use Rattle.sx_order_items.specs.Stops.{ItemsStop, StopsLie}
+use Rattle.sx_order_items.specs.Stops.{GivenStops, ItemsStop, StopsLie}
 use Rattle.sx_order_items.specs.Written.{NoInitialisers}
 use Rattle.sx_order_items.proofs.Items.{program-spans}
 use Rattle.sx_order_items.proofs.Meeting.{items-stop}
-use Rattle.sx_order_items.proofs.Settled.{settled-lies}
+use Rattle.sx_order_items.proofs.Settled.{nothing, settled-lies}
+
+-- no faults lie anywhere
+none-lie : (gs : List Giving) → StopsLie gs []
+none-lie gs i g there = by g.value
+  where
+    by : (o : Option Expr) → GivenStops [] g.node.0 i o
+    by None = tt
+    by (Some e) = λ f q. absurd (nothing f q)
+
+-- one of two looks
+unless_told-spans : (lo hi : ℕ) (v again : Verdict Program) → Spans lo hi Anything v → Spans lo hi Anything again → Spans lo hi Anything (unless_told v again)
+unless_told-spans lo hi (typed p w) again first second = first
+unless_told-spans lo hi (untold w) again first second = second
+unless_told-spans lo hi (depends w) again first second = second
+unless_told-spans lo hi (fails f fs w) again first second = first
 
 module _ (codes : (d : Declarations) → CodeSpans d) (s : SpecialNames) (is : List Item) (x : Settled) (settled_so : IsSettled s is x) where
-  pub settled-stops : ItemsStop x.stops 0 no_numbers is
+  plain-stops : ItemsStop [] 0 no_numbers is
+  plain-stops =
+      let whole : List Giving = giving_items is (outline s is).items in
+      items-stop (type_meant s is) [] whole (none-lie whole) is nothing_visited no_numbers (λ j. let start : j ≡ j + 0 = omega arith in ap (slice_get whole) start)
+
+  settled-stops : ItemsStop x.stops 0 no_numbers is
   settled-stops =
       let (first, second, a, b, with_those) = settled_so in
       let (holders, told, structures, classes, same) = with_those in
@@ -42,21 +60,12 @@ module _ (codes : (d : Declarations) → CodeSpans d) (s : SpecialNames) (is : L
       items-stop (type_meant s is) x.stops whole lie is nothing_visited no_numbers (λ j. let start : j ≡ j + 0 = omega arith in ap (slice_get whole) start)
 
   module _ (names : OwnNames) (none : NoInitialisers is) where
-    pub settled-spans : Spans 0 (length (all_places is)) Anything (program x names is)
-    settled-spans = program-spans x (codes x.declarations) names is settled-stops none
-
-    -- behind the program the walk has met all nodes
-    pub all-met : (behind (program x names is)).next ≡ length (all_places is)
-    all-met = behind-is (program x names is) settled-spans
+    pub judged-spans : Spans 0 (length (all_places is)) Anything (judged x names is)
+    judged-spans =
+        unless_told-spans 0 (length (all_places is)) (program (plain x) names is) (program x names is)
+        (program-spans (plain x) (codes (plain x).declarations) names is plain-stops none)
+        (program-spans x (codes x.declarations) names is settled-stops none)
 
     -- the first fault is one of the program's nodes, and none has a lesser number
-    pub first-fault : (f : TypeStop) (fs : List TypeStop) (w : Walk) → program x names is ≡ fails f fs w → Lies 0 (length (all_places is)) (node (number_of f)) × All (λ g. number_of f ≤ number_of g) fs
-    first-fault f fs w e = first-is-least f fs w (subst (Spans 0 (length (all_places is)) Anything) e settled-spans)
-
--- what is answered of a tree is the first of its faults
-pub typing-is-first : ((d : Declarations) → CodeSpans d) → (tree : Tree) → NoInitialisers tree.items → (k : TypeKind) (n : Node) → Checked tree (Err (Typing k n)) →
-    (x : Settled) × (fs : List TypeStop) × (w : Walk) × (program x (own_names tree.names.items) tree.items ≡ fails (Typing k n) fs w) × Lies 0 (length (all_places tree.items)) n × All (λ g. n.0 ≤ number_of g) fs
-typing-is-first codes tree none k n (x, settled_so, told) =
-    let (fs, w, e) = told in
-    let (lies, least) = first-fault codes (special_names tree.names.items) tree.items x settled_so (own_names tree.names.items) none (Typing k n) fs w e in
-    (x, fs, w, e, lies, least)
+    pub first-fault : (f : TypeStop) (fs : List TypeStop) (w : Walk) → judged x names is ≡ fails f fs w → Lies 0 (length (all_places is)) (node (number_of f)) × All (λ g. number_of f ≤ number_of g) fs
+    first-fault f fs w e = first-is-least f fs w (subst (Spans 0 (length (all_places is)) Anything) e judged-spans)

@@ -8,7 +8,7 @@ use Rattle.sx_scope.specs.Verdict.{Verdict, fails, failing}
 use Rattle.sx_check_decl.specs.declared.items.Program.{Program}
 use Rattle.sx_check_decl.specs.declared.items.Settled.{Settled}
 use Rattle.sx_check_decl.specs.Checked.{IsSettled}
-use Rattle.sx_check_decl.specs.Items.{program}
+use Rattle.sx_check_decl.specs.Looks as looks
 use Rattle.sx_check_decl.specs.Special.{own_names, special_names}
 use Rattle.sx_order.specs.Order.{Rising, number_of}
 use Rattle.sx_order_items.specs.Written.{NoInitialisers}
@@ -17,7 +17,7 @@ use Rattle.sx_order_items.specs.Written.{NoInitialisers}
 pub record IsJudged (tree : Tree) (v : Verdict Program) : Type 0 where
   pub settled : Settled
   pub is_settled : IsSettled (special_names tree.names.items) tree.items settled
-  pub judged : program settled (own_names tree.names.items) tree.items ≡ v
+  pub judged : looks.judged settled (own_names tree.names.items) tree.items ≡ v
 
 -- In walking order the numbers of the failing nodes of a tree rise, and each is one of the tree's nodes.
 abbrev pub FailingNodesRise : Type 0

@@ -1,9 +1,12 @@
 // Calls of the front over small texts.
 
+use std::alloc::Global;
+use std::process::Abort;
 use std::test::Fail;
-use sx_driver::{CompileStop, Fault, fault_line, tree_of};
+use sx_driver::{CompileStop, Fault, fault_line, tree_of, typed_of};
 use sx_lexer::lex;
 use sx_parse_decl::parse_declaration;
+use sx_scope::TypeKind;
 use sx_span::Node;
 use sx_tree::{Head, fault_place};
 
@@ -50,4 +53,24 @@ fn a_fault_has_a_line(rt: HostRuntime) -> Result<(), Fail> {
     let line = fault_line(rt.alloc(), text, Fault::Syntax(21))?;
     assert_eq!(rt; line.as_str(), "error 2:12 syntax\n");
     Ok(())
+}
+
+// The text is refused by this condition at this byte.
+fn is_refused(rt: &impl Abort, alloc: Global, text: &[u8], kind: TypeKind, at: u32) {
+    match typed_of(alloc, text) {
+        Err(stop) => assert_eq!(rt; stop, CompileStop::Refused(Fault::Typing(kind, at))),
+        Ok(_) => panic!(rt; "a node fails"),
+    }
+}
+
+#[test]
+fn circles_of_initial_values_come_last(rt: HostRuntime) {
+    let alloc = rt.alloc();
+    let text = b"struct S { var x = S(x: 1).x }";
+    is_refused(&rt, alloc, text, TypeKind::NeedsType, 21);
+    // The property depends on itself, and the first global on it.
+    let text = b"var b = C().x\nlet a = q\nclass C { var x = C().x }";
+    is_refused(&rt, alloc, text, TypeKind::UnknownName, 22);
+    let text = b"struct S { var x = S().x }\nlet a = b\nlet b = a";
+    is_refused(&rt, alloc, text, TypeKind::NeedsType, 35);
 }

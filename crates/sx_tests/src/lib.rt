@@ -9,6 +9,8 @@ mod assembly;
 #[cfg(test)]
 mod bit_fields;
 #[cfg(test)]
+mod code;
+#[cfg(test)]
 mod executables;
 #[cfg(test)]
 mod front;
