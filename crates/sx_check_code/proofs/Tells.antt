@@ -1,5 +1,5 @@
 -- What is told of what is judged, and in what order nodes fail.
-use Rattle.std.proofs.Common.{◌≡◌, ◌+◌, ◌∙◌, ℕ, List, length, Option, Some, None, Result, Ok, Err, refl, sym, ap}
+use Rattle.std.proofs.Common.{◌≡◌, ◌+◌, ℕ, Result, Ok, Err}
 use Rattle.sx_span.specs.declared.places.Node.{Node}
 use Rattle.sx_scope.specs.declared.stop.TypeStop.{TypeStop}
 use Rattle.sx_scope.specs.declared.stop.TypeStop.TheVariants.{Typing, TooWide, Late, NoMemory}

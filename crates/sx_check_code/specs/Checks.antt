@@ -1,10 +1,12 @@
 -- What is told of code that is checked by itself.
-use Rattle.std.specs.Prelude.{◌≡◌, ◌+◌, ℕ, List, length, Option, Some, None, Result, Ok, Err}
+use Rattle.std.specs.Prelude.{◌≡◌, ◌+◌, ℕ, List, Option, Some, None, Result, Ok, Err}
 use Rattle.sx_span.specs.declared.places.Node.{Node}
 use Rattle.sx_tree.specs.declared.code.Block.{Block}
 use Rattle.sx_tree.specs.declared.code.Expr.{Expr}
 use Rattle.sx_tree.specs.declared.code.Statement.{Statement}
-use Rattle.sx_tree.specs.Nodes.{block_places, expr_places, statement_places}
+use Rattle.sx_tree.specs.declared.declarations.Item.{Item}
+use Rattle.sx_nodes.specs.declared.code.Code.TheVariants as code
+use Rattle.sx_nodes.specs.Walks.{CodeAt}
 use Rattle.sx_types.specs.declared.types.Ty.{Ty}
 use Rattle.sx_typed.specs.declared.code.Expr.{Expr as TypedExpr}
 use Rattle.sx_typed.specs.declared.code.Statement.{Statement as TypedStatement}
@@ -13,12 +15,22 @@ use Rattle.sx_scope.specs.declared.stop.TypeStop.TheVariants.{Typing, TooWide, L
 use Rattle.sx_scope.specs.declared.declarations.Declarations.{Declarations}
 use Rattle.sx_scope.specs.declared.walk.Use.TheVariants as uses
 use Rattle.sx_scope.specs.declared.walk.Walk.{Walk}
-use Rattle.sx_scope.specs.Verdict.{Verdict, typed, untold, depends, fails, failing}
+use Rattle.sx_scope.specs.Verdict.{Verdict, typed, depends, fails, failing}
 use Rattle.sx_functions.specs.Places.{body_value}
 use Rattle.sx_check_expr.specs.Judge.{judged_expr, judged_statement}
 use Rattle.sx_order.specs.Order.{Rising}
 use Rattle.sx_check_code.specs.declared.scope.Scope.{Scope}
 use Rattle.sx_check_code.specs.Scopes.{asked_by, place_in, walk_in}
+
+-- what stands at a node of a program
+abbrev pub IsExpression : List Item → Node → Expr → Type 0
+IsExpression is n e = CodeAt is n.0 (Some (code.Expression e))
+
+abbrev pub IsBlock : List Item → Node → Block → Type 0
+IsBlock is n b = CodeAt is n.0 (Some (code.Block b))
+
+abbrev pub IsStatement : List Item → Node → Statement → Type 0
+IsStatement is n s = CodeAt is n.0 (Some (code.Statement s))
 
 -- what is judged of an expression, a body and a statement with this node, by what is declared and by what they see
 abbrev pub expression : Declarations → Scope → Node → Expr → Option Ty → Verdict TypedExpr

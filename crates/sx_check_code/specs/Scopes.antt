@@ -1,5 +1,5 @@
 -- What code sees of what stands around it (The Swift Programming Language, "Declarations", on scope).
-use Rattle.std.specs.Prelude.{ℕ, List, [], Option, Some, None}
+use Rattle.std.specs.Prelude.{ℕ, [], Option, Some, None}
 use Rattle.sx_types.specs.declared.types.Ty.{Ty}
 use Rattle.sx_scope.specs.declared.walk.Asked.{Asked}
 use Rattle.sx_scope.specs.declared.walk.Asked.TheVariants as asked

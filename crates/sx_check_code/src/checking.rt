@@ -1,19 +1,17 @@
-// Expressions, bodies and statements by themselves.
+// Expressions, bodies and statements by themselves, by the numbers of their nodes.
 
-ghost use Rattle.std.specs.Prelude.{◌≡◌, length};
-ghost use Rattle.sx_scope.specs.Verdict.{Answers};
-ghost use Rattle.sx_functions.specs.Places.{body_value};
+ghost use Rattle.std.specs.Prelude.{length};
 ghost use Rattle.sx_tree.specs.Nodes.{block_places, expr_places, statement_places};
 ghost use Rattle.sx_check_code.specs.Checks as checks;
-ghost use Rattle.sx_check_code.specs.Checks.{FailInOrder, Tells};
-ghost use Rattle.sx_check_code.specs.Told.{told};
+ghost use Rattle.sx_check_code.specs.Checks.{FailInOrder, IsBlock, IsExpression, IsStatement, Tells};
 
-use crate::scope::{Scope, asked_by, place_in, walk_in};
+use crate::parts::{checked_body, checked_expression, checked_statement};
+use crate::scope::Scope;
 use std::alloc::Global;
-use sx_check_expr::{JudgedStatements, body, expr};
-use sx_scope::{Declarations, Found, Place, TypeStop, Use, Walk};
+use sx_nodes::{Code, code_at};
+use sx_scope::{Declarations, TypeStop};
 use sx_span::Node;
-use sx_tree::{Block, Expr, Statement};
+use sx_tree::Tree;
 use sx_types::Ty;
 
 /// The expression of this node, for which a type may be expected, as what is declared and what it
@@ -23,26 +21,24 @@ use sx_types::Ty;
 /// Memory runs out too where it hangs on a type that the scope doesn't tell.
 pub fn check_expression(
     alloc: Global,
+    tree: &Tree,
     declarations: &Declarations,
     scope: &Scope,
     node: Node,
-    expression: &Expr,
     expected: Option<Ty>,
 ) -> Result<Option<sx_typed::Expr>, TypeStop>
-    ensures told { Tells result (checks.expression declarations.now scope.now node expression.now expected) }
-    ensures order { FailInOrder node (length (expr_places expression.now)) (checks.expression declarations.now scope.now node expression.now expected) }
+    requires { (e : _) × IsExpression tree.now.items node e }
+    ensures told { (e : _) → IsExpression tree.now.items node e → Tells result (checks.expression declarations.now scope.now node e expected) }
+    ensures order { (e : _) → IsExpression tree.now.items node e → FailInOrder node (length (expr_places e)) (checks.expression declarations.now scope.now node e expected) }
 {
-    let mut walk = walk_in(alloc, scope, node)?;
-    let judged = expr(
-        alloc,
-        declarations,
-        &mut walk,
-        place_in(scope),
-        asked_by(expected),
-        Use::Kept,
-        expression,
-    );
-    told(judged)
+    let found = code_at(alloc, tree, node)?;
+    if let Some(code) = &found {
+        if let Code::Expression(expression) = code {
+            return checked_expression(alloc, declarations, scope, node, expression, expected);
+        }
+    }
+    // What stands there is an expression.
+    Err(TypeStop::NoMemory)
 }
 
 /// The statements of the body of this node, which stands in no loop, as what is declared and what it
@@ -52,37 +48,23 @@ pub fn check_expression(
 /// Memory runs out too where it hangs on a type that the scope doesn't tell.
 pub fn check_block(
     alloc: Global,
+    tree: &Tree,
     declarations: &Declarations,
     scope: &Scope,
     node: Node,
-    block: &Block,
 ) -> Result<Option<sx_typed::Block>, TypeStop>
-    ensures told { Tells result (checks.body declarations.now scope.now node block.now) }
-    ensures order { FailInOrder node (length (block_places block.now)) (checks.body declarations.now scope.now node block.now) }
+    requires { (b : _) × IsBlock tree.now.items node b }
+    ensures told { (b : _) → IsBlock tree.now.items node b → Tells result (checks.body declarations.now scope.now node b) }
+    ensures order { (b : _) → IsBlock tree.now.items node b → FailInOrder node (length (block_places b)) (checks.body declarations.now scope.now node b) }
 {
-    let mut walk = walk_in(alloc, scope, node)?;
-    let judged = body_of(alloc, declarations, &mut walk, place_in(scope), block);
-    told(judged)
-}
-
-/// A body, which is a node.
-fn body_of(
-    alloc: Global,
-    declarations: &Declarations,
-    walk: &mut Walk,
-    place: Place,
-    block: &Block,
-) -> JudgedStatements
-    ensures { Answers result walk.new (body_value declarations.now place block.now walk.old) }
-{
-    walk.take_node()?;
-    body(
-        alloc,
-        declarations,
-        walk,
-        place,
-        block.statements.as_slice(),
-    )
+    let found = code_at(alloc, tree, node)?;
+    if let Some(code) = &found {
+        if let Code::Block(block) = code {
+            return checked_body(alloc, declarations, scope, node, block);
+        }
+    }
+    // What stands there is a block.
+    Err(TypeStop::NoMemory)
 }
 
 /// The statement of this node, as what is declared and what it sees have it; none, exactly where no
@@ -92,32 +74,21 @@ fn body_of(
 /// Memory runs out too where it hangs on a type that the scope doesn't tell.
 pub fn check_statement(
     alloc: Global,
+    tree: &Tree,
     declarations: &Declarations,
     scope: &Scope,
     node: Node,
-    statement: &Statement,
 ) -> Result<Option<sx_typed::Statement>, TypeStop>
-    ensures told { Tells result (checks.statement declarations.now scope.now node statement.now) }
-    ensures order { FailInOrder node (length (statement_places statement.now)) (checks.statement declarations.now scope.now node statement.now) }
+    requires { (s : _) × IsStatement tree.now.items node s }
+    ensures told { (s : _) → IsStatement tree.now.items node s → Tells result (checks.statement declarations.now scope.now node s) }
+    ensures order { (s : _) → IsStatement tree.now.items node s → FailInOrder node (length (statement_places s)) (checks.statement declarations.now scope.now node s) }
 {
-    let mut walk = walk_in(alloc, scope, node)?;
-    let judged = sx_check_expr::statement(
-        alloc,
-        declarations,
-        &mut walk,
-        place_in(scope),
-        statement,
-    );
-    told(judged)
-}
-
-/// What is told of what is answered.
-fn told<A: Drop>(answered: Result<Found<A>, TypeStop>) -> Result<Option<A>, TypeStop>
-    ensures { result ≡ told answered }
-{
-    match answered? {
-        Found::Typed(typed) => Ok(Some(typed)),
-        Found::Untold => Err(TypeStop::NoMemory),
-        Found::Depends => Ok(None),
+    let found = code_at(alloc, tree, node)?;
+    if let Some(code) = &found {
+        if let Code::Statement(statement) = code {
+            return checked_statement(alloc, declarations, scope, node, statement);
+        }
     }
+    // What stands there is a statement.
+    Err(TypeStop::NoMemory)
 }

@@ -3,6 +3,7 @@
 #![tactic(auto)]
 
 mod checking;
+mod parts;
 mod scope;
 
 pub use checking::{check_block, check_expression, check_statement};

@@ -5,9 +5,10 @@ use std::alloc::Global;
 use sx_check_code::{Scope, check_block, check_expression, check_statement};
 use sx_check_decl::declarations_of;
 use sx_driver::tree_of;
+use sx_nodes::{Code, code_at};
 use sx_scope::{TypeKind, TypeStop};
 use sx_span::Node;
-use sx_tree::{Item, Tree};
+use sx_tree::Tree;
 use sx_types::Ty;
 
 const TEXT: &[u8] = b"func f() -> Int { return a + 1 }\nlet a = 1\nlet b = q\nprint(b)";
@@ -25,63 +26,50 @@ fn scope(alloc: Global, given: Option<Ty>) -> Scope {
     }
 }
 
-// What the body of the text's function has: its count of statements, if it depends on nothing that
-// has failed.
-fn body(alloc: Global, tree: &Tree) -> Result<Option<usize>, TypeStop> {
+// What the body of this node has: its count of statements, if it depends on nothing that has failed.
+fn body(alloc: Global, tree: &Tree, node: Node) -> Result<Option<usize>, TypeStop> {
     let declarations = declarations_of(alloc, tree)?;
     let scope = scope(alloc, Some(Ty::Int));
-    match tree.items.get(0) {
-        Some(Item::Function(function)) => {
-            let checked = check_block(alloc, &declarations, &scope, Node(2), &function.body)?;
-            match checked {
+    let found = code_at(alloc, tree, node)?;
+    if let Some(code) = &found {
+        if let Code::Block(_) = code {
+            return match check_block(alloc, tree, &declarations, &scope, node)? {
                 Some(statements) => Ok(Some(statements.len())),
                 None => Ok(None),
-            }
+            };
         }
-        _ => Err(TypeStop::NoMemory),
     }
+    Err(TypeStop::NoMemory)
 }
 
-// Whether the initial value of the global with this number has the type, if it depends on nothing
-// that has failed.
-fn value(alloc: Global, tree: &Tree, item: usize, ty: Ty) -> Result<Option<bool>, TypeStop> {
+// Whether the expression of this node has the type, if it depends on nothing that has failed.
+fn value(alloc: Global, tree: &Tree, node: Node, ty: Ty) -> Result<Option<bool>, TypeStop> {
     let declarations = declarations_of(alloc, tree)?;
     let scope = scope(alloc, None);
-    match tree.items.get(item) {
-        Some(Item::Global(variable)) => match &variable.value {
-            Some(value) => {
-                let expected = Some(ty);
-                let node = Node(9);
-                let checked = check_expression(
-                    alloc,
-                    &declarations,
-                    &scope,
-                    node,
-                    value,
-                    expected,
-                )?;
-                match checked {
-                    Some(value) => Ok(Some(value.ty == ty)),
-                    None => Ok(None),
-                }
-            }
-            None => Err(TypeStop::NoMemory),
-        },
-        _ => Err(TypeStop::NoMemory),
+    let found = code_at(alloc, tree, node)?;
+    if let Some(code) = &found {
+        if let Code::Expression(_) = code {
+            return match check_expression(alloc, tree, &declarations, &scope, node, Some(ty))? {
+                Some(value) => Ok(Some(value.ty == ty)),
+                None => Ok(None),
+            };
+        }
     }
+    Err(TypeStop::NoMemory)
 }
 
-// Whether the statement with this number is typed, and depends on nothing that has failed.
-fn statement(alloc: Global, tree: &Tree, item: usize) -> Result<bool, TypeStop> {
+// Whether the statement of this node is typed, and depends on nothing that has failed.
+fn statement(alloc: Global, tree: &Tree, node: Node) -> Result<bool, TypeStop> {
     let declarations = declarations_of(alloc, tree)?;
     let scope = scope(alloc, None);
-    match tree.items.get(item) {
-        Some(Item::Statement(statement)) => {
-            let checked = check_statement(alloc, &declarations, &scope, Node(20), statement)?;
-            Ok(checked.is_some())
+    let found = code_at(alloc, tree, node)?;
+    if let Some(code) = &found {
+        if let Code::Statement(_) = code {
+            let checked = check_statement(alloc, tree, &declarations, &scope, node)?;
+            return Ok(checked.is_some());
         }
-        _ => Err(TypeStop::NoMemory),
     }
+    Err(TypeStop::NoMemory)
 }
 
 #[test]
@@ -90,19 +78,20 @@ fn code_is_checked_by_itself(rt: HostRuntime) {
     let Ok(tree) = tree_of(alloc, TEXT) else {
         panic!(rt; "the text has a tree");
     };
-    assert!(rt; matches!(body(alloc, &tree), Ok(Some(1))));
-    assert!(rt; matches!(value(alloc, &tree, 1, Ty::Int), Ok(Some(true))));
+    assert!(rt; matches!(body(alloc, &tree, Node(2)), Ok(Some(1))));
+    assert!(rt; matches!(value(alloc, &tree, Node(4), Ty::Int), Ok(Some(true))));
+    assert!(rt; matches!(value(alloc, &tree, Node(8), Ty::Int), Ok(Some(true))));
     assert!(rt;
         matches!(
-            value(alloc, &tree, 1, Ty::Bool),
-            Err(TypeStop::Typing(TypeKind::Mismatch, Node(9)))
+            value(alloc, &tree, Node(8), Ty::Bool),
+            Err(TypeStop::Typing(TypeKind::Mismatch, Node(8)))
         )
     );
     assert!(rt;
         matches!(
-            value(alloc, &tree, 2, Ty::Int),
-            Err(TypeStop::Typing(TypeKind::UnknownName, Node(9)))
+            value(alloc, &tree, Node(10), Ty::Int),
+            Err(TypeStop::Typing(TypeKind::UnknownName, Node(10)))
         )
     );
-    assert!(rt; matches!(statement(alloc, &tree, 3), Ok(false)));
+    assert!(rt; matches!(statement(alloc, &tree, Node(11)), Ok(false)));
 }
