@@ -1,0 +1,9 @@
+pub mod Lists
+pub mod Layers
+pub mod Placed
+pub mod Signatures
+pub mod Behind
+pub mod Fronts
+pub mod Forms
+pub mod Steps
+pub mod Walks
