@@ -1,7 +1,9 @@
+pub mod Decided
+pub mod EachOnce
 pub mod Kept
+pub mod Paired
 pub mod Rising
-pub mod RisingLocals
 pub mod Runs
 pub mod Steps
-pub mod TwoLooks
+pub mod LookingAgain
 pub mod Telling

@@ -1,5 +1,5 @@
 -- A program: its items one after another (The Swift Programming Language, "Declarations", top-level code).
-use Rattle.std.specs.Prelude.{ℕ, ◌+◌, ◌-◌, Bool, false, not, List, [], ◌∷◌, ◌++◌, length, slice_get, Option, Some, None, option_map, option_and_then, cond}
+use Rattle.std.specs.Prelude.{◌≡◌, ℕ, ◌+◌, ◌-◌, Bool, false, not, List, [], ◌∷◌, ◌++◌, length, slice_get, Option, Some, None, option_map, option_and_then, cond}
 use Rattle.sx_tree.specs.declared.code.Statement.{Statement as WrittenStatement}
 use Rattle.sx_tree.specs.declared.declarations.Item.{Item}
 use Rattle.sx_tree.specs.declared.declarations.Item.TheVariants as items
@@ -13,6 +13,9 @@ use Rattle.sx_typed.specs.declared.code.Statement.{Statement}
 use Rattle.sx_typed.specs.declared.code.StatementForm.TheVariants as statements
 use Rattle.sx_typed.specs.declared.program.TypeDeclaration.{TypeDeclaration}
 use Rattle.sx_scope.specs.declared.declarations.Declarations.{Declarations}
+use Rattle.sx_scope.specs.declared.stop.TypeKind.TheVariants as kinds
+use Rattle.sx_scope.specs.declared.stop.TypeStop.TheVariants.{Typing}
+use Rattle.sx_scope.specs.declared.walk.Walk.{Walk}
 use Rattle.sx_scope.specs.Verdict.{Verdict, typed, untold, depends, fails, Judging, ◌▷◌, both, behind, moved}
 use Rattle.sx_scope.specs.Walks.{node}
 use Rattle.sx_bodies.specs.Literals.{words_in}
@@ -29,6 +32,8 @@ use Rattle.sx_members.specs.declared.types.TypeFault.{TypeFault}
 use Rattle.sx_members.specs.declared.variables.TypedVariable.{TypedVariable}
 use Rattle.sx_members.specs.Members.{type_declaration}
 use Rattle.sx_members.specs.Variables.{outer_place, variable}
+use Rattle.sx_check_decl.specs.declared.items.Blame.{Blame}
+use Rattle.sx_check_decl.specs.declared.items.Blame.TheVariants as blames
 use Rattle.sx_check_decl.specs.declared.items.Program.{Program}
 use Rattle.sx_check_decl.specs.declared.items.Settled.{Settled}
 use Rattle.sx_check_decl.specs.declared.items.TypedItem.{TypedItem}
@@ -108,6 +113,10 @@ with_item (typed_items.Class t) p = record p { classes = p.classes ++ t ∷ [] }
 with_item (typed_items.Global x constant v) p = with_global x constant v (stored_global v.value p)
 with_item (typed_items.Statement n s) p = record p { top = p.top ++ s ∷ []; starts = p.starts ++ n ∷ [] }
 
+-- each statement of the outermost level has a node at which it starts
+abbrev pub Paired : Program → Type 0
+Paired p = length p.starts ≡ length p.top
+
 abbrev pub item_added : Program × TypedItem → Judging Program
 item_added (p, i) = typed (with_item i p)
 
@@ -118,6 +127,17 @@ no_program = record { top = []; starts = []; globals = []; structures = []; clas
 abbrev pub statement_value : Declarations → WrittenStatement → Judging TypedItem
 statement_value d x w = moved (left w) ((judged_statement d x).value outer_place w) ▷ statement_item w.next
 
+-- Where no node in an item fails and yet it isn't typed, others are to blame, or the item itself, which then has no type to be given.
+abbrev pub by_blame : {A : Type 0} → Blame → ℕ → Walk → Verdict A → Verdict A
+by_blame blames.Others n w v = v
+by_blame blames.Itself n w v = fails (Typing kinds.NeedsType (node n)) [] w
+
+abbrev pub blamed : {A : Type 0} → Blame → ℕ → Verdict A → Verdict A
+blamed b n (typed a w) = typed a w
+blamed b n (untold w) = by_blame b n w (untold w)
+blamed b n (depends w) = by_blame b n w (depends w)
+blamed b n (fails f fs w) = fails f fs w
+
 module _ (s : Settled) (names : OwnNames) where
   -- beside what has these names, with these numbers and words of globals before it
   abbrev pub item : List ℕ → Numbers → Option ℕ → Item → Judging TypedItem
@@ -127,12 +147,16 @@ module _ (s : Settled) (names : OwnNames) where
   item seen k words (items.Global v) w = variable s.declarations names s.stops None seen (room_for v words) k.given v w ▷ global_item v
   item seen k words (items.Statement x) w = statement_value s.declarations x w
 
-  -- items one after another, behind those that were found
-  abbrev pub run_items : Verdict Program → List ℕ → Numbers → Option ℕ → List Item → Verdict Program
-  run_items v seen k words [] = v
-  run_items v seen k words (i ∷ is) =
-      run_items (both v (item seen k words i) ▷ item_added) (with_name (item_name i) seen) (behind_item i k)
-      (words_behind s.declarations.types i (item seen k words i (behind v)) words) is
+  module _ (blame : Blame) where
+    abbrev pub blamed_item : List ℕ → Numbers → Option ℕ → Item → Judging TypedItem
+    blamed_item seen k words i w = blamed blame w.next (item seen k words i w)
 
-  abbrev pub program : List Item → Verdict Program
-  program is = run_items (typed no_program (at 0)) [] no_numbers (Some 0) is
+    -- items one after another, behind those that were found
+    abbrev pub run_items : Verdict Program → List ℕ → Numbers → Option ℕ → List Item → Verdict Program
+    run_items v seen k words [] = v
+    run_items v seen k words (i ∷ is) =
+        run_items (both v (blamed_item seen k words i) ▷ item_added) (with_name (item_name i) seen) (behind_item i k)
+        (words_behind s.declarations.types i (blamed_item seen k words i (behind v)) words) is
+
+    abbrev pub program : List Item → Verdict Program
+    program is = run_items (typed no_program (at 0)) [] no_numbers (Some 0) is

@@ -1,7 +1,8 @@
 // Programs.
 
-ghost use Rattle.std.specs.Prelude.{◌≡◌, ◌∷◌, Err, IfOk, IsTrue, None, map};
+ghost use Rattle.std.specs.Prelude.{◌≡◌, ◌∷◌, Err, IfOk, IsTrue, None, length, map};
 ghost use Rattle.sx_check_decl.specs.Captures as captures;
+ghost use Rattle.sx_check_decl.specs.Items.{Paired};
 ghost use Rattle.sx_check_decl.specs.Program.{Checked, IsTyped, Tells, TellsCrowded, TellsLate, bytes_of};
 ghost use Rattle.sx_late.specs.Reaching.{IsFirstLate};
 ghost use Rattle.sx_scope.specs.Verdict.{typed};
@@ -16,7 +17,7 @@ use crate::special::{own_names, special_names};
 use sqlite_items::Items;
 use std::alloc::{AllocError, Global};
 use sx_late::{LateReach, late};
-use sx_scope::{Found, TypeStop, Walk};
+use sx_scope::{TypeStop, Walk};
 use sx_span::Node;
 use sx_tree::Tree;
 use sx_typed::{Function, Typed};
@@ -24,9 +25,7 @@ use sx_types::Types;
 
 /// The typed tree of a program, or why its names and types are refused.
 ///
-/// Two cases can't arise, but that is not proved, and `NoMemory` is answered in them: no node
-/// fails, and yet the items hang on a type that nothing tells or depend on a declaration that has
-/// failed; and the nodes of the functions don't rise.
+/// `NoMemory` is answered, too, where the nodes of the functions don't rise, which can't arise.
 pub fn check(alloc: Global, tree: &Tree) -> Result<Typed, TypeStop>
     ensures { Checked tree.now result }
 {
@@ -34,13 +33,8 @@ pub fn check(alloc: Global, tree: &Tree) -> Result<Typed, TypeStop>
     let own = own_names(tree.names.as_slice())?;
     let mut settled = settled(alloc, special, tree.items.as_slice())?;
     let mut walk = at_start(alloc);
-    match judge_program(alloc, &mut settled, own, &mut walk, tree.items.as_slice())? {
-        Found::Typed(program) => {
-            finished(alloc, tree, settled.declarations.types, program, walk)
-        }
-        Found::Untold => Err(TypeStop::NoMemory),
-        Found::Depends => Err(TypeStop::NoMemory),
-    }
+    let program = judge_program(alloc, &mut settled, own, &mut walk, tree.items.as_slice())?;
+    finished(alloc, tree, settled.declarations.types, program, walk)
 }
 
 /// The typed tree of a program, unless its literals capture too much or a statement of the
@@ -52,6 +46,7 @@ fn finished(
     program: Program,
     walk: Walk,
 ) -> Result<Typed, TypeStop>
+    requires { Paired program }
     ensures { Tells tree.now types result (typed program walk) }
 {
     match narrow(&types, walk.literals.as_slice()) {
@@ -78,6 +73,7 @@ fn completed(
     program: Program,
     walk: Walk,
 ) -> Result<Typed, TypeStop>
+    requires { Paired program }
     ensures { captures.crowded types walk.literals ≡ None → Tells tree.now types result (typed program walk) }
 {
     let (typed, starts) = typed_tree(alloc, tree, types, program, walk)?;
@@ -128,6 +124,7 @@ fn typed_tree(
 /// The typed tree, unless a statement of the outermost level reaches a global too late. The
 /// statements start at these nodes.
 fn unless_late(alloc: Global, starts: Items<Node>, typed: Typed) -> Result<Typed, TypeStop>
+    requires { length starts ≡ length typed.top }
     ensures { TellsLate starts typed result }
 {
     match late(alloc, &typed)? {
@@ -138,17 +135,14 @@ fn unless_late(alloc: Global, starts: Items<Node>, typed: Typed) -> Result<Typed
 
 /// What is told where this statement is the first to reach a global too late.
 fn late_stop(starts: &[Node], typed: &Typed, reach: LateReach) -> TypeStop
-    ensures { IsFirstLate typed.now reach → TellsLate starts.now typed.now (Err result) }
+    requires starts { length starts.now ≡ length typed.now.top }
+    requires late { IsFirstLate typed.now reach }
+    ensures { TellsLate starts.now typed.now (Err result) }
 {
-    match starts.get(reach.statement) {
-        Some(at) => match typed.globals.get(reach.global as usize) {
-            Some(global) => TypeStop::Late {
-                at: *at,
-                global: global.node,
-            },
-            None => TypeStop::NoMemory,
-        },
-        None => TypeStop::NoMemory,
+    let globals = typed.globals.as_slice();
+    TypeStop::Late {
+        at: starts[reach.statement],
+        global: globals[reach.global as usize].node,
     }
 }
 

@@ -3,6 +3,7 @@
 ghost use Rattle.std.specs.Prelude.{◌≡◌, IfOk, OnOk, None, Some, [], cond};
 ghost use Rattle.sx_check_decl.specs.Items as judged;
 ghost use Rattle.sx_scope.specs.Verdict.{Answers, ◌▷◌, both, found, typed};
+ghost use Rattle.sx_scope.specs.Verdict as verdicts;
 ghost use Rattle.sx_functions.specs.Functions.{function};
 ghost use Rattle.sx_members.specs.Members as members;
 ghost use Rattle.sx_members.specs.Variables as variables;
@@ -16,7 +17,7 @@ use sx_check_expr::statement;
 use sx_functions::{OwnNames, function};
 use sx_heads::is_computed;
 use sx_members::{TypeFault, TypedVariable, outer_place, type_declaration, variable};
-use sx_scope::{Declarations, Found, TypeStop, Walk};
+use sx_scope::{Declarations, Found, TypeKind as FaultKind, TypeStop, Walk};
 use sx_span::Node;
 use sx_tables::{Numbers, behind_item, type_numbered};
 use sx_tree::{Item, TypeKind};
@@ -62,6 +63,15 @@ pub struct Program {
     pub classes: Items<TypeDeclaration>,
 }
 
+/// What is to blame where no node in an item fails and yet it isn't typed.
+#[derive(Clone, Copy)]
+pub enum Blame {
+    /// What it hangs on or depends on.
+    Others,
+    /// The item, which has no type to be given.
+    Itself,
+}
+
 /// The most words that all stored globals may have together.
 const MOST_GLOBAL_WORDS: u32 = 4_194_304;
 
@@ -83,10 +93,11 @@ pub fn judge_items(
     alloc: Global,
     settled: &Settled,
     own: OwnNames,
+    blame: Blame,
     walk: &mut Walk,
     mut items: &[Item],
 ) -> JudgedProgram
-    ensures { Answers result walk.new (judged.run_items settled.now own (typed judged.no_program walk.old) [] names.no_numbers (Some 0) items.entry.now) }
+    ensures { Answers result walk.new (judged.run_items settled.now own blame (typed judged.no_program walk.old) [] names.no_numbers (Some 0) items.entry.now) }
 {
     let mut before = Before {
         seen: IndexSet::new(alloc),
@@ -95,7 +106,7 @@ pub fn judge_items(
     };
     let mut program = Found::Typed(no_program(alloc));
     'items: while let Some((item, rest)) = items.split_first() {
-        let found = turn(alloc, settled, own, walk, &mut before, item)?;
+        let found = turn(alloc, settled, own, blame, walk, &mut before, item)?;
         program = item_added(program, found)?;
         items = rest;
     }
@@ -131,18 +142,38 @@ fn turn(
     alloc: Global,
     settled: &Settled,
     own: OwnNames,
+    blame: Blame,
     walk: &mut Walk,
     before: &mut Before,
     item: &Item,
 ) -> Result<Found<TypedItem>, TypeStop>
-    ensures found { Answers result walk.new (judged.item settled.now own before.old.seen.keys before.old.numbers before.old.words item.now walk.old) }
+    ensures found { Answers result walk.new (judged.blamed_item settled.now own blame before.old.seen.keys before.old.numbers before.old.words item.now walk.old) }
     ensures seen { OnOk result (before.new.seen.keys ≡ names.with_name (names.item_name item.now) before.old.seen.keys) }
     ensures numbers { OnOk result (before.new.numbers ≡ names.behind_item item.now before.old.numbers) }
-    ensures words { OnOk result (before.new.words ≡ judged.words_behind settled.now.declarations.types item.now (judged.item settled.now own before.old.seen.keys before.old.numbers before.old.words item.now walk.old) before.old.words) }
+    ensures words { OnOk result (before.new.words ≡ judged.words_behind settled.now.declarations.types item.now (judged.blamed_item settled.now own blame before.old.seen.keys before.old.numbers before.old.words item.now walk.old) before.old.words) }
 {
-    let found = item_value(alloc, settled, own, walk, before, item)?;
+    let start = Node(walk.next);
+    let value = item_value(alloc, settled, own, walk, before, item)?;
+    let found = blamed(blame, start, value)?;
     pass(&settled.declarations.types, before, item, &found)?;
     Ok(found)
+}
+
+/// What is found of an item that starts at this node, unless it isn't typed and is itself to blame.
+fn blamed(blame: Blame, start: Node, found: Found<TypedItem>) -> Result<Found<TypedItem>, TypeStop>
+    ensures { (w : _) → Answers result w (judged.blamed blame start.0 (verdicts.found found w)) }
+{
+    match found {
+        Found::Typed(item) => Ok(Found::Typed(item)),
+        Found::Untold => match blame {
+            Blame::Others => Ok(Found::Untold),
+            Blame::Itself => Err(TypeStop::Typing(FaultKind::NeedsType, start)),
+        },
+        Found::Depends => match blame {
+            Blame::Others => Ok(Found::Depends),
+            Blame::Itself => Err(TypeStop::Typing(FaultKind::NeedsType, start)),
+        },
+    }
 }
 
 /// Goes on behind an item of which this is found.

@@ -11,5 +11,5 @@ mod settling;
 mod special;
 
 pub use checking::check;
-pub use items::{JudgedProgram, Program, Settled, TypedItem};
+pub use items::{Blame, JudgedProgram, Program, Settled, TypedItem};
 pub use looks::declarations_of;

@@ -8,8 +8,7 @@ use std::alloc::{AllocError, Global};
 use sx_span::Node;
 use sx_typed::{Function, Statement, StatementForm};
 
-/// The `var`s of the blocks of a program, in the order of their nodes. No two of them have one node;
-/// such would count as memory that runs out.
+/// The `var`s of the blocks of a program, each once, in the order of their nodes.
 pub fn variables_of(
     alloc: Global,
     top: &[Statement],
@@ -17,13 +16,15 @@ pub fn variables_of(
 ) -> Result<Items<Node>, AllocError>
     ensures { IfOk result (λ l. locals.AreInOrder (locals.variables_of top.now functions.now) l) }
 {
-    let mut variables = Vec::new(alloc);
-    put_block(&mut variables, top)?;
-    put_functions(&mut variables, functions)?;
-    in_order(variables)
+    let mut numbers = Vec::new(alloc);
+    put_block(&mut numbers, top)?;
+    put_functions(&mut numbers, functions)?;
+    numbers.sort_unstable();
+    numbers.dedup();
+    nodes_of(alloc, numbers.as_slice())
 }
 
-fn put_functions(variables: &mut Vec<Node>, functions: &[Function]) -> Result<(), AllocError>
+fn put_functions(variables: &mut Vec<u32>, functions: &[Function]) -> Result<(), AllocError>
     ensures { OnOk result (variables.new.items ≡ variables.old.items ++ locals.all (map locals.function_variables functions.now)) }
 {
     for function in functions {
@@ -33,7 +34,7 @@ fn put_functions(variables: &mut Vec<Node>, functions: &[Function]) -> Result<()
 }
 
 #[cycle(statements)]
-fn put_block(variables: &mut Vec<Node>, block: &[Statement]) -> Result<(), AllocError>
+fn put_block(variables: &mut Vec<u32>, block: &[Statement]) -> Result<(), AllocError>
     ensures { OnOk result (variables.new.items ≡ variables.old.items ++ locals.block_variables block.now) }
 {
     for statement in block {
@@ -43,7 +44,7 @@ fn put_block(variables: &mut Vec<Node>, block: &[Statement]) -> Result<(), Alloc
 }
 
 #[cycle(statements)]
-fn put_statement(variables: &mut Vec<Node>, statement: &Statement) -> Result<(), AllocError>
+fn put_statement(variables: &mut Vec<u32>, statement: &Statement) -> Result<(), AllocError>
     ensures { OnOk result (variables.new.items ≡ variables.old.items ++ locals.statement_variables statement.now) }
 {
     match &statement.form {
@@ -64,42 +65,20 @@ fn put_statement(variables: &mut Vec<Node>, statement: &Statement) -> Result<(),
     }
 }
 
-fn put(variables: &mut Vec<Node>, node: Node) -> Result<(), AllocError>
-    ensures { OnOk result (variables.new.items ≡ variables.old.items ++ node ∷ []) }
+fn put(variables: &mut Vec<u32>, node: Node) -> Result<(), AllocError>
+    ensures { OnOk result (variables.new.items ≡ variables.old.items ++ node.0 ∷ []) }
 {
-    variables.push(node)?;
+    variables.push(node.0)?;
     Ok(())
 }
 
-/// These nodes in their order, each once.
-fn in_order(mut nodes: Vec<Node>) -> Result<Items<Node>, AllocError>
-    ensures { IfOk result (λ l. locals.AreInOrder nodes.items l) }
+/// The nodes with these numbers.
+fn nodes_of(alloc: Global, numbers: &[u32]) -> Result<Items<Node>, AllocError>
+    ensures { IfOk result (λ nodes. map locals.number nodes ≡ numbers.now) }
 {
-    nodes.sort_by_key(|node| node.0)?;
-    if are_rising(nodes.as_slice()) {
-        Ok(Items::from_vec(nodes))
-    } else {
-        Err(AllocError)
+    let mut nodes = Items::new(alloc);
+    'numbers: for number in numbers {
+        nodes.push(Node(*number))?;
     }
-}
-
-fn are_rising(mut nodes: &[Node]) -> bool
-    ensures { result ≡ locals.are_rising (map locals.number nodes.entry.now) }
-{
-    'nodes: while let [node, rest @ ..] = nodes {
-        if !is_below(*node, rest) {
-            return false;
-        }
-        nodes = rest;
-    }
-    true
-}
-
-fn is_below(node: Node, nodes: &[Node]) -> bool
-    ensures { result ≡ locals.is_below (locals.number node) (map locals.number nodes.now) }
-{
-    match nodes {
-        [next, ..] => node.0 < next.0,
-        [] => true,
-    }
+    Ok(nodes)
 }

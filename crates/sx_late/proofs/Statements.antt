@@ -34,10 +34,11 @@ module _ (typed : Typed) (i : ℕ) (here : Statement) (stands : slice_get typed.
       statement = here;
       stands = stands;
       reaches = least.0;
+      is_global = least.2;
       declared = subst (λ n. n ≤ l) is least.1;
     };
     statement_first = λ j g late. by j g late (cases_order j i);
-    global_first = λ g late. least.2 g (reaches_here g late) (subst (λ n. n ≤ g) (sym is) late.declared);
+    global_first = λ g late. least.3 g (reaches_here g late) (subst (λ n. n ≤ g) (sym is) late.declared);
   }
     where
       by : (j g : ℕ) → IsLate typed j g → (j ≡ i) ⊎ ((j < i) ⊎ (i < j)) → i ≤ j
@@ -50,8 +51,12 @@ module _ (typed : Typed) (i : ℕ) (here : Statement) (stands : slice_get typed.
       → IsLeastReached typed (statement_mentions typed here) declared None → (j g : ℕ) → j < i + 1 → ¬ IsLate typed j g
   not_late declared is earlier least j g lower late = by (cases_order j i)
     where
+      past : (g : ℕ) → IsLate typed i g → (g < declared) ⊎ (length typed.globals ≤ g) → ⊥
+      past g late (inl less) = let at = late.declared in absurd (omega (arith, is, at))
+      past g late (inr none) = let one = late.is_global in absurd (omega (arith, one))
+
       over : (g : ℕ) → IsLate typed i g → ⊥
-      over g late = let less = least g (reaches_here g late) in let at = late.declared in absurd (omega (arith, is))
+      over g late = past g late (least g (reaches_here g late))
 
       by : (j ≡ i) ⊎ ((j < i) ⊎ (i < j)) → ⊥
       by (inl e) = over g (subst (λ n. IsLate typed n g) e late)

@@ -1,5 +1,6 @@
 -- What a walk along the mentions keeps.
-use Rattle.std.proofs.Common.{◌≡◌, ◌⊎◌, inl, inr, ℕ, ◌<◌, ◌≤◌, Bool, true, false, true≢false, ◌||◌, List, [], ◌∷◌, ◌++◌, nat_eq, Option, Some, None, arith, refl, sym, ap, subst, ◌∙◌}
+use Rattle.std.proofs.Common.{◌≡◌, ◌⊎◌, inl, inr, ℕ, ◌<◌, ◌≤◌, Bool, true, false, true≢false, ◌||◌, List, [], ◌∷◌, ◌++◌, nat_eq, length, Option, Some, None, MatchOption, arith, refl, sym, ap, subst, ◌∙◌}
+use Rattle.std.specs.Bool.{⊤}
 use Rattle.std.proofs.lemmas.Bool.{eq-eqb, eqb-true}
 use Rattle.std.proofs.lemmas.List.Folds.{list_any-append}
 use Rattle.sx_span.specs.declared.places.Node.{Node}
@@ -35,28 +36,28 @@ module _ (seen : List ℕ) (k : Node) where
       by false h false e = absurd (true≢false (sym is ∙ seen_more x ∙ ap (λ b. b || (nat_eq k.0 x || false)) h ∙ ap (λ b. b || false) e))
 
 -- ---- what was done stays done
-module _ (seen after : List ℕ) (declared later : ℕ) (least lower : Option ℕ) (more : (m : Mentioned) → IsDone seen declared least m → IsDone after later lower m) where
-  pub still_done : (work left ms : Mentions) → ((m : Mentioned) → IsMentioned work m → IsMentioned left m ⊎ IsDone after later lower m) → AreDone seen declared least work ms → AreDone after later lower left ms
+module _ (count : ℕ) (seen after : List ℕ) (declared later : ℕ) (least lower : Option ℕ) (more : (m : Mentioned) → IsDone count seen declared least m → IsDone count after later lower m) where
+  pub still_done : (work left ms : Mentions) → ((m : Mentioned) → IsMentioned work m → IsMentioned left m ⊎ IsDone count after later lower m) → AreDone count seen declared least work ms → AreDone count after later lower left ms
   still_done work left ms keeps are m is = by (are m is)
     where
-      by : IsMentioned work m ⊎ IsDone seen declared least m → IsMentioned left m ⊎ IsDone after later lower m
+      by : IsMentioned work m ⊎ IsDone count seen declared least m → IsMentioned left m ⊎ IsDone count after later lower m
       by (inl there) = keeps m there
       by (inr done) = inr (more m done)
 
-pub done_later : (seen : List ℕ) (declared later : ℕ) → declared ≤ later → (m : Mentioned) → IsDone seen declared None m → IsDone seen later None m
-done_later seen declared later h (Function n) is = is
-done_later seen declared later h (Global g) (inl less) = inl (omega arith)
-done_later seen declared later h (Global g) (inr none) = absurd none
+pub done_later : (count : ℕ) (seen : List ℕ) (declared later : ℕ) → declared ≤ later → (m : Mentioned) → IsDone count seen declared None m → IsDone count seen later None m
+done_later count seen declared later h (Function n) is = is
+done_later count seen declared later h (Global g) (inl less) = inl (omega arith)
+done_later count seen declared later h (Global g) (inr none) = inr none
 
 pub followed_later : (typed : Typed) (seen : List ℕ) (declared later : ℕ) → declared ≤ later → IsFollowed typed seen declared None [] → IsFollowed typed seen later None []
 followed_later typed seen declared later h are n is =
-    still_done seen seen declared later None None (done_later seen declared later h) [] [] (function_mentions typed n) (λ m there. absurd (none_mentioned m there)) (are n is)
+    still_done (length typed.globals) seen seen declared later None None (done_later (length typed.globals) seen declared later h) [] [] (function_mentions typed n) (λ m there. absurd (none_mentioned m there)) (are n is)
 
 -- ---- a walk begins
 pub walk_begins : (typed : Typed) (ms : Mentions) (declared : ℕ) (seen : List ℕ) → IsFollowed typed seen declared None [] → IsWalk typed ms declared seen None ms
 walk_begins typed ms declared seen are = record {
   begun = λ m is. inl is;
-  followed = λ n is. still_done seen seen declared declared None None (λ m done. done) [] ms (function_mentions typed n) (λ m there. absurd (none_mentioned m there)) (are n is);
+  followed = λ n is. still_done (length typed.globals) seen seen declared declared None None (λ m done. done) [] ms (function_mentions typed n) (λ m there. absurd (none_mentioned m there)) (are n is);
   leads = λ m is g reaches. leads_from typed ms m g is reaches;
   found = tt;
 }
@@ -64,12 +65,12 @@ walk_begins typed ms declared seen are = record {
 -- ---- a turn
 module _ (typed : Typed) (ms : Mentions) (declared : ℕ) (seen : List ℕ) (least : Option ℕ) (work : Mentions) (m : Mentioned) (walk : IsWalk typed ms declared seen least (work ++ m ∷ [])) where
   -- what is mentioned was done already
-  popped : (after : List ℕ) (lower : Option ℕ) → IsDone after declared lower m → (k : Mentioned) → IsMentioned (work ++ m ∷ []) k → IsMentioned work k ⊎ IsDone after declared lower k
+  popped : (after : List ℕ) (lower : Option ℕ) → IsDone (length typed.globals) after declared lower m → (k : Mentioned) → IsMentioned (work ++ m ∷ []) k → IsMentioned work k ⊎ IsDone (length typed.globals) after declared lower k
   popped after lower done k is = by (left_or_right work (m ∷ []) k is)
     where
-      by : IsMentioned work k ⊎ IsMentioned (m ∷ []) k → IsMentioned work k ⊎ IsDone after declared lower k
+      by : IsMentioned work k ⊎ IsMentioned (m ∷ []) k → IsMentioned work k ⊎ IsDone (length typed.globals) after declared lower k
       by (inl there) = inl there
-      by (inr last) = inr (subst (λ x. IsDone after declared lower x) (alone m k last) done)
+      by (inr last) = inr (subst (λ x. IsDone (length typed.globals) after declared lower x) (alone m k last) done)
 
   leads_still : (k : Mentioned) → IsMentioned work k → (g : ℕ) → Reaches typed (k ∷ []) g → Reaches typed ms g
   leads_still k is = walk.leads k (in_left work (m ∷ []) k is)
@@ -77,45 +78,57 @@ module _ (typed : Typed) (ms : Mentions) (declared : ℕ) (seen : List ℕ) (lea
   last : IsMentioned (work ++ m ∷ []) m
   last = in_right work (m ∷ []) m (here m)
 
-  pub was_done : IsDone seen declared least m → IsWalk typed ms declared seen least work
+  pub was_done : IsDone (length typed.globals) seen declared least m → IsWalk typed ms declared seen least work
   was_done done = record {
-    begun = still_done seen seen declared declared least least (λ k was. was) (work ++ m ∷ []) work ms (popped seen least done) walk.begun;
-    followed = λ n is. still_done seen seen declared declared least least (λ k was. was) (work ++ m ∷ []) work (function_mentions typed n) (popped seen least done) (walk.followed n is);
+    begun = still_done (length typed.globals) seen seen declared declared least least (λ k was. was) (work ++ m ∷ []) work ms (popped seen least done) walk.begun;
+    followed = λ n is. still_done (length typed.globals) seen seen declared declared least least (λ k was. was) (work ++ m ∷ []) work (function_mentions typed n) (popped seen least done) (walk.followed n is);
     leads = leads_still;
     found = walk.found;
   }
 
 -- a lower global is reached
-module _ (declared : ℕ) (seen : List ℕ) (least : Option ℕ) (g : ℕ) (new : ¬ IsPassed declared least g) where
-  passed_more : (o : Option ℕ) → o ≡ least → (h : ℕ) → IsPassed declared o h → IsPassed declared (Some g) h
+module _ (count declared : ℕ) (seen : List ℕ) (least : Option ℕ) (g : ℕ) (new : ¬ IsPassed count declared least g) where
+  passed_more : (o : Option ℕ) → o ≡ least → (h : ℕ) → IsPassed count declared o h → IsPassed count declared (Some g) h
   passed_more o same h (inl less) = inl less
-  passed_more None same h (inr none) = absurd none
+  passed_more None same h (inr none) = inr (by (λ under. new (subst (λ o. IsPassed count declared o g) same (inr under))))
+    where
+      by : ¬ (count ≤ g) → g ≤ h
+      by over = grind (arith, over, none)
   passed_more (Some l) same h (inr le) = inr (by (l_over l same))
     where
       l_over : (l : ℕ) → Some l ≡ least → ¬ (l ≤ g)
-      l_over l same under = new (subst (λ o. IsPassed declared o g) same (inr under))
+      l_over l same under = new (subst (λ o. IsPassed count declared o g) same (inr under))
 
       by : ¬ (l ≤ g) → g ≤ h
       by over = grind (arith, over)
 
-  pub done_lower : (m : Mentioned) → IsDone seen declared least m → IsDone seen declared (Some g) m
+  pub done_lower : (m : Mentioned) → IsDone count seen declared least m → IsDone count seen declared (Some g) m
   done_lower (Function n) is = is
   done_lower (Global h) is = passed_more least refl h is
 
   pub at_or_after : declared ≤ g
   at_or_after = let over : ¬ (g < declared) = (λ less. new (inl less)) in grind (arith, over)
 
+-- it is one of the program's
+below : (count declared : ℕ) (least : Option ℕ) (g : ℕ) → MatchOption least ⊤ (λ l. l < count) → ¬ IsPassed count declared least g → g < count
+below count declared None g found new = let over : ¬ (count ≤ g) = (λ under. new (inr under)) in grind (arith, over)
+below count declared (Some l) g found new = let over : ¬ (l ≤ g) = (λ under. new (inr under)) in grind (arith, over, found)
+
 pub lower_found : (typed : Typed) (ms : Mentions) (declared : ℕ) (seen : List ℕ) (least : Option ℕ) (work : Mentions) (g : ℕ)
-    → IsWalk typed ms declared seen least (work ++ Global g ∷ []) → ¬ IsPassed declared least g → IsWalk typed ms declared seen (Some g) work
+    → IsWalk typed ms declared seen least (work ++ Global g ∷ []) → ¬ IsPassed (length typed.globals) declared least g → IsWalk typed ms declared seen (Some g) work
 lower_found typed ms declared seen least work g walk new = record {
-  begun = still_done seen seen declared declared least (Some g) (done_lower declared seen least g new) (work ++ Global g ∷ []) work ms pops walk.begun;
-  followed = λ n is. still_done seen seen declared declared least (Some g) (done_lower declared seen least g new) (work ++ Global g ∷ []) work (function_mentions typed n) pops (walk.followed n is);
+  begun = still_done (length typed.globals) seen seen declared declared least (Some g) (done_lower (length typed.globals) declared seen least g new) (work ++ Global g ∷ []) work ms pops walk.begun;
+  followed = λ n is. still_done (length typed.globals) seen seen declared declared least (Some g) (done_lower (length typed.globals) declared seen least g new) (work ++ Global g ∷ []) work (function_mentions typed n) pops (walk.followed n is);
   leads = leads_still typed ms declared seen least work (Global g) walk;
-  found = (walk.leads (Global g) (last typed ms declared seen least work (Global g) walk) g (itself (Global g ∷ []) g (here (Global g))), at_or_after declared seen least g new);
+  found = (walk.leads (Global g) (last typed ms declared seen least work (Global g) walk) g (itself (Global g ∷ []) g (here (Global g))), at_or_after (length typed.globals) declared seen least g new, below (length typed.globals) declared least g (few least walk.found) new);
 }
   where
-    pops : (k : Mentioned) → IsMentioned (work ++ Global g ∷ []) k → IsMentioned work k ⊎ IsDone seen declared (Some g) k
+    pops : (k : Mentioned) → IsMentioned (work ++ Global g ∷ []) k → IsMentioned work k ⊎ IsDone (length typed.globals) seen declared (Some g) k
     pops = popped typed ms declared seen least work (Global g) walk seen (Some g) (inr (omega arith))
+
+    few : (o : Option ℕ) → MatchOption o ⊤ (λ l. Reaches typed ms l × (declared ≤ l) × (l < length typed.globals)) → MatchOption o ⊤ (λ l. l < length typed.globals)
+    few None found = tt
+    few (Some l) found = found.2
 
 -- a function is seen
 module _ (typed : Typed) (ms : Mentions) (declared : ℕ) (seen : List ℕ) (least : Option ℕ) (work : Mentions) (n : Node) (walk : IsWalk typed ms declared seen least (work ++ Function n ∷ [])) where
@@ -125,14 +138,14 @@ module _ (typed : Typed) (ms : Mentions) (declared : ℕ) (seen : List ℕ) (lea
   abbrev left : Mentions
   left = work ++ function_mentions typed n
 
-  done_still : (m : Mentioned) → IsDone seen declared least m → IsDone after declared least m
+  done_still : (m : Mentioned) → IsDone (length typed.globals) seen declared least m → IsDone (length typed.globals) after declared least m
   done_still (Function k) is = seen_still seen k n.0 is
   done_still (Global g) is = is
 
-  follows : (m : Mentioned) → IsMentioned (work ++ Function n ∷ []) m → IsMentioned left m ⊎ IsDone after declared least m
+  follows : (m : Mentioned) → IsMentioned (work ++ Function n ∷ []) m → IsMentioned left m ⊎ IsDone (length typed.globals) after declared least m
   follows m is = by (popped typed ms declared seen least work (Function n) walk after least (seen_here seen n n.0 refl) m is)
     where
-      by : IsMentioned work m ⊎ IsDone after declared least m → IsMentioned left m ⊎ IsDone after declared least m
+      by : IsMentioned work m ⊎ IsDone (length typed.globals) after declared least m → IsMentioned left m ⊎ IsDone (length typed.globals) after declared least m
       by (inl there) = inl (in_left work (function_mentions typed n) m there)
       by (inr done) = inr done
 
@@ -141,14 +154,14 @@ module _ (typed : Typed) (ms : Mentions) (declared : ℕ) (seen : List ℕ) (lea
 
   pub function_seen : IsWalk typed ms declared after least left
   function_seen = record {
-    begun = still_done seen after declared declared least least done_still (work ++ Function n ∷ []) left ms follows walk.begun;
+    begun = still_done (length typed.globals) seen after declared declared least least done_still (work ++ Function n ∷ []) left ms follows walk.begun;
     followed = λ k is. by k (seen_or_here seen k n.0 is);
     leads = λ m is. further m (left_or_right work (function_mentions typed n) m is);
     found = walk.found;
   }
     where
-      by : (k : Node) → IsSeen seen k ⊎ (k.0 ≡ n.0) → AreDone after declared least left (function_mentions typed k)
-      by k (inl is) = still_done seen after declared declared least least done_still (work ++ Function n ∷ []) left (function_mentions typed k) follows (walk.followed k is)
+      by : (k : Node) → IsSeen seen k ⊎ (k.0 ≡ n.0) → AreDone (length typed.globals) after declared least left (function_mentions typed k)
+      by k (inl is) = still_done (length typed.globals) seen after declared declared least least done_still (work ++ Function n ∷ []) left (function_mentions typed k) follows (walk.followed k is)
       by k (inr e) = λ m is. inl (in_right work (function_mentions typed n) m (subst (λ ms. IsMentioned ms m) (sym (same_body k e)) is))
 
       further : (m : Mentioned) → IsMentioned work m ⊎ IsMentioned (function_mentions typed n) m → (g : ℕ) → Reaches typed (m ∷ []) g → Reaches typed ms g
@@ -161,7 +174,7 @@ module _ (typed : Typed) (ms : Mentions) (declared : ℕ) (seen : List ℕ) (lea
   visited n walk (inl was) = rw (was.1, was.2) (was_done typed ms declared seen least work (Function n) walk was.0)
   visited n walk (inr new) = rw (new.1, new.2) (function_seen typed ms declared seen least work n walk)
 
-  passed : (g : ℕ) → IsWalk typed ms declared seen least (work ++ Global g ∷ []) → Passes declared g least lower → IsWalk typed ms declared seen lower work
+  passed : (g : ℕ) → IsWalk typed ms declared seen least (work ++ Global g ∷ []) → Passes (length typed.globals) declared g least lower → IsWalk typed ms declared seen lower work
   passed g walk (inl was) = rw was.1 (was_done typed ms declared seen least work (Global g) walk was.0)
   passed g walk (inr new) = rw new.1 (lower_found typed ms declared seen least work g walk new.0)
 
@@ -171,28 +184,24 @@ module _ (typed : Typed) (ms : Mentions) (declared : ℕ) (seen : List ℕ) (lea
 
 -- ---- a walk ends
 module _ (typed : Typed) (ms : Mentions) (declared : ℕ) (seen : List ℕ) (least : Option ℕ) (walk : IsWalk typed ms declared seen least []) where
-  all_done : (ks : Mentions) → AreDone seen declared least [] ks → (m : Mentioned) → IsMentioned ks m → IsDone seen declared least m
+  all_done : (ks : Mentions) → AreDone (length typed.globals) seen declared least [] ks → (m : Mentioned) → IsMentioned ks m → IsDone (length typed.globals) seen declared least m
   all_done ks are m is = by (are m is)
     where
-      by : IsMentioned [] m ⊎ IsDone seen declared least m → IsDone seen declared least m
+      by : IsMentioned [] m ⊎ IsDone (length typed.globals) seen declared least m → IsDone (length typed.globals) seen declared least m
       by (inl there) = absurd (none_mentioned m there)
       by (inr done) = done
 
-  all_passed : (ks : Mentions) (g : ℕ) → Reaches typed ks g → ((m : Mentioned) → IsMentioned ks m → IsDone seen declared least m) → IsPassed declared least g
+  all_passed : (ks : Mentions) (g : ℕ) → Reaches typed ks g → ((m : Mentioned) → IsMentioned ks m → IsDone (length typed.globals) seen declared least m) → IsPassed (length typed.globals) declared least g
   all_passed ks g (itself _ _ is) done = done (Global g) is
   all_passed ks g (through _ n _ is rest) done = all_passed (function_mentions typed n) g rest (all_done (function_mentions typed n) (walk.followed n (done (Function n) is)))
 
-  pub reached_passed : (g : ℕ) → Reaches typed ms g → IsPassed declared least g
+  pub reached_passed : (g : ℕ) → Reaches typed ms g → IsPassed (length typed.globals) declared least g
   reached_passed g reaches = all_passed ms g reaches (all_done ms walk.begun)
 
 pub least_reached : (typed : Typed) (ms : Mentions) (declared : ℕ) (seen : List ℕ) (least : Option ℕ) → IsWalk typed ms declared seen least [] → IsLeastReached typed ms declared least
-least_reached typed ms declared seen None walk = λ g reaches. by g (reached_passed typed ms declared seen None walk g reaches)
+least_reached typed ms declared seen None walk = λ g reaches. reached_passed typed ms declared seen None walk g reaches
+least_reached typed ms declared seen (Some l) walk = (walk.found.0, walk.found.1, walk.found.2, λ g reaches at. by g at (reached_passed typed ms declared seen (Some l) walk g reaches))
   where
-    by : (g : ℕ) → IsPassed declared None g → g < declared
-    by g (inl less) = less
-    by g (inr none) = absurd none
-least_reached typed ms declared seen (Some l) walk = (walk.found.0, walk.found.1, λ g reaches at. by g at (reached_passed typed ms declared seen (Some l) walk g reaches))
-  where
-    by : (g : ℕ) → declared ≤ g → IsPassed declared (Some l) g → l ≤ g
+    by : (g : ℕ) → declared ≤ g → IsPassed (length typed.globals) declared (Some l) g → l ≤ g
     by g at (inl less) = absurd (omega arith)
     by g at (inr le) = le

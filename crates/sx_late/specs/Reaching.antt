@@ -1,7 +1,7 @@
 -- Which statements of the outermost level reach a stored global that is declared at or after them: this project's own.
 -- In Swift the code at the outermost level runs in the order of the text (The Swift Programming Language,
 -- "Declarations", top-level code), so a global that is reached so may have no value yet. Here such a text is refused.
-use Rattle.std.specs.Prelude.{◌≡◌, ℕ, ◌≤◌, length, take, filter, Bool, true, false, slice_get, Some}
+use Rattle.std.specs.Prelude.{◌≡◌, ℕ, ◌≤◌, ◌<◌, length, take, filter, Bool, true, false, slice_get, Some}
 use Rattle.sx_span.specs.declared.places.Node.{Node}
 use Rattle.sx_typed.specs.Layers.{StatementLayer, statement_of}
 use Rattle.sx_typed.specs.declared.code.Statement.{Statement}
@@ -43,11 +43,12 @@ stores_global s = layer_stores_global (statement_of s)
 abbrev pub declared_before : Typed → ℕ → ℕ
 declared_before typed i = length (filter stores_global (take i typed.top))
 
--- statement i reaches global g, which is declared at or after it
+-- statement i reaches global g, one of the program's, which is declared at or after it
 pub record IsLate (typed : Typed) (i g : ℕ) : Type 0 where
   pub statement : Statement
   pub stands : slice_get typed.top i ≡ Some statement
   pub reaches : Reaches typed (statement_mentions typed statement) g
+  pub is_global : g < length typed.globals
   pub declared : declared_before typed i ≤ g
 
 -- the first statement that is late, and the first global for which it is

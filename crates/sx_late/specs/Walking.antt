@@ -12,8 +12,8 @@ use Rattle.sx_late.specs.declared.mentions.Mentioned.TheVariants as mentioned
 -- ---- what a walk finds
 -- the least global, of those from the first that isn't declared, to which the mentions lead
 abbrev pub IsLeastReached : Typed → Mentions → ℕ → Option ℕ → Type 0
-IsLeastReached typed ms declared None = (g : ℕ) → Reaches typed ms g → g < declared
-IsLeastReached typed ms declared (Some l) = Reaches typed ms l × (declared ≤ l) × ((g : ℕ) → Reaches typed ms g → declared ≤ g → l ≤ g)
+IsLeastReached typed ms declared None = (g : ℕ) → Reaches typed ms g → (g < declared) ⊎ (length typed.globals ≤ g)
+IsLeastReached typed ms declared (Some l) = Reaches typed ms l × (declared ≤ l) × (l < length typed.globals) × ((g : ℕ) → Reaches typed ms g → declared ≤ g → l ≤ g)
 
 -- ---- what is done
 -- the function has been seen
@@ -23,26 +23,27 @@ is_seen seen n = list_any (nat_eq n.0) seen
 abbrev pub IsSeen : List ℕ → Node → Type 0
 IsSeen seen n = is_seen seen n ≡ true
 
--- the global is declared, or a lower one that isn't has been reached
-abbrev pub IsPassed : ℕ → Option ℕ → ℕ → Type 0
-IsPassed declared least g = (g < declared) ⊎ MatchOption least ⊥ (λ l. l ≤ g)
+-- of so many globals, the one is declared, or none of them, or a lower one that isn't declared has been reached
+abbrev pub IsPassed : ℕ → ℕ → Option ℕ → ℕ → Type 0
+IsPassed count declared least g = (g < declared) ⊎ MatchOption least (count ≤ g) (λ l. l ≤ g)
 
-abbrev pub IsDone : List ℕ → ℕ → Option ℕ → Mentioned → Type 0
-IsDone seen declared least (mentioned.Function n) = IsSeen seen n
-IsDone seen declared least (mentioned.Global g) = IsPassed declared least g
+abbrev pub IsDone : ℕ → List ℕ → ℕ → Option ℕ → Mentioned → Type 0
+IsDone count seen declared least (mentioned.Function n) = IsSeen seen n
+IsDone count seen declared least (mentioned.Global g) = IsPassed count declared least g
 
 -- each of the mentions is done or left
-abbrev pub AreDone : List ℕ → ℕ → Option ℕ → Mentions → Mentions → Type 0
-AreDone seen declared least work ms = (m : Mentioned) → IsMentioned ms m → IsMentioned work m ⊎ IsDone seen declared least m
+abbrev pub AreDone : ℕ → List ℕ → ℕ → Option ℕ → Mentions → Mentions → Type 0
+AreDone count seen declared least work ms = (m : Mentioned) → IsMentioned ms m → IsMentioned work m ⊎ IsDone count seen declared least m
 
 -- so is each mention in the functions that have been seen
 abbrev pub IsFollowed : Typed → List ℕ → ℕ → Option ℕ → Mentions → Type 0
-IsFollowed typed seen declared least work = (n : Node) → IsSeen seen n → AreDone seen declared least work (function_mentions typed n)
+IsFollowed typed seen declared least work = (n : Node) → IsSeen seen n → AreDone (length typed.globals) seen declared least work (function_mentions typed n)
 
 -- ---- a turn of the walk
 -- the least global with one more
-abbrev pub Passes : ℕ → ℕ → Option ℕ → Option ℕ → Type 0
-Passes declared g least least_after = (IsPassed declared least g × (least_after ≡ least)) ⊎ ((¬ IsPassed declared least g) × (least_after ≡ Some g))
+abbrev pub Passes : ℕ → ℕ → ℕ → Option ℕ → Option ℕ → Type 0
+Passes count declared g least least_after =
+    (IsPassed count declared least g × (least_after ≡ least)) ⊎ ((¬ IsPassed count declared least g) × (least_after ≡ Some g))
 
 -- a function that hasn't been seen is followed
 abbrev pub Visits : Typed → Node → List ℕ → Mentions → List ℕ → Mentions → Type 0
@@ -52,14 +53,14 @@ Visits typed n seen work seen_after work_after =
 
 abbrev pub TurnIs : Typed → ℕ → Mentioned → List ℕ → Mentions → Option ℕ → List ℕ → Mentions → Option ℕ → Type 0
 TurnIs typed declared (mentioned.Function n) seen work least seen_after work_after least_after = Visits typed n seen work seen_after work_after × (least_after ≡ least)
-TurnIs typed declared (mentioned.Global g) seen work least seen_after work_after least_after = (seen_after ≡ seen) × (work_after ≡ work) × Passes declared g least least_after
+TurnIs typed declared (mentioned.Global g) seen work least seen_after work_after least_after = (seen_after ≡ seen) × (work_after ≡ work) × Passes (length typed.globals) declared g least least_after
 
 -- what is left leads only where the first mentions lead, and each of those is done or left
 pub record IsWalk (typed : Typed) (ms : Mentions) (declared : ℕ) (seen : List ℕ) (least : Option ℕ) (work : Mentions) : Type 0 where
-  pub begun : AreDone seen declared least work ms
+  pub begun : AreDone (length typed.globals) seen declared least work ms
   pub followed : IsFollowed typed seen declared least work
   pub leads : (m : Mentioned) → IsMentioned work m → (g : ℕ) → Reaches typed (m ∷ []) g → Reaches typed ms g
-  pub found : MatchOption least ⊤ (λ l. Reaches typed ms l × (declared ≤ l))
+  pub found : MatchOption least ⊤ (λ l. Reaches typed ms l × (declared ≤ l) × (l < length typed.globals))
 
 -- each turn leaves less to do
 abbrev pub mentions_unseen : Typed → List ℕ → Function → ℕ

@@ -95,7 +95,7 @@ fn turn(
             visit(typed, seen, work, node)?;
             Ok(least)
         }
-        Mentioned::Global(global) => Ok(lower(declared, least, global)),
+        Mentioned::Global(global) => Ok(lower(typed.globals.len(), declared, least, global)),
     }
 }
 
@@ -116,23 +116,24 @@ fn visit(
 }
 
 /// The least global that is reached, with one more.
-fn lower(declared: usize, least: Option<u32>, global: u32) -> Option<u32>
-    ensures { Passes declared global least result }
+fn lower(count: usize, declared: usize, least: Option<u32>, global: u32) -> Option<u32>
+    ensures { Passes count declared global least result }
 {
-    if is_passed(declared, least, global) {
+    if is_passed(count, declared, least, global) {
         least
     } else {
         Some(global)
     }
 }
 
-/// Whether the global is declared, or a lower one that isn't has been reached.
-fn is_passed(declared: usize, least: Option<u32>, global: u32) -> bool
-    ensures { IsTrue result ↔ IsPassed declared least global }
+/// Of so many globals, whether the one is declared, or none of them, or a lower one that isn't
+/// declared has been reached.
+fn is_passed(count: usize, declared: usize, least: Option<u32>, global: u32) -> bool
+    ensures { IsTrue result ↔ IsPassed count declared least global }
 {
     (global as usize) < declared
         || match least {
             Some(lowest) => lowest <= global,
-            None => false,
+            None => count <= global as usize,
         }
 }

@@ -122,5 +122,6 @@ module _ (t u : Typed) where
         statement = l.statement;
         stands = l.stands;
         reaches = subst (λ xs. Reaches (moved t u) xs g) (sym (ap (λ f. f l.statement) statements-moved)) (reaches-moved (statement_mentions t l.statement) g l.reaches);
+        is_global = l.is_global;
         declared = l.declared;
       }

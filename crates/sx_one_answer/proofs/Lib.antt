@@ -4,3 +4,4 @@ pub mod Locals
 pub mod Settled
 pub mod Programs
 pub mod Answers
+pub mod Decided

@@ -1,13 +1,10 @@
 -- Nodes in the order of their numbers stand in one order.
 use Rattle.std.proofs.Common.{◌≡◌, ℕ, zero, suc, ◌+◌, ◌<◌, List, [], ◌∷◌, map, length, get_or, Contains, refl, sym, ap, ap₂, subst, ◌∙◌, arith, inl, inr, ⊎_elim, ◌⊎◌}
-use Rattle.std.specs.List.Sorted.{IsPermutation, IsStrictlyIncreasing}
+use Rattle.std.specs.List.Sorted.{IsStrictlyIncreasing}
 use Rattle.std.proofs.lemmas.List.{get_or-map, length-map}
 use Rattle.std.proofs.lemmas.List.Kept.{AllPairs-from_increasing}
-use Rattle.std.proofs.lemmas.List.Sorted.{Contains-permutation, IsPermutation-sym, IsPermutation-trans}
 use Rattle.sx_span.specs.declared.places.Node.{Node}
-
-abbrev number : Node → ℕ
-number n = n.0
+use Rattle.sx_check_decl.specs.Locals.{HaveTheSame, number}
 
 abbrev Rising : List Node → Type 0
 Rising ns = IsStrictlyIncreasing (map number ns)
@@ -51,7 +48,19 @@ same_rising (n ∷ ns) (m ∷ ms) r s h k =
     (λ x i. still_behind n m x ns ms first r i (h x (further n x ns i)))
     (λ x i. still_behind m n x ms ns (sym first) s i (k x (further m x ms i))))
 
-pub one_order : (xs ns ms : List Node) → IsPermutation xs ns → IsPermutation xs ms → Rising ns → Rising ms → ns ≡ ms
+-- ---- by their numbers
+number_there : (ns : List Node) (x : Node) → Contains ns x → Contains (map number ns) x.0
+number_there ns x (k, l, e) = let count : length (map number ns) ≡ length ns = length-map ns number in (k, omega (arith, l, count), get_or-map number ns k x x.0 l ∙ ap number e)
+
+node_there : (ns : List Node) (x : Node) → Contains (map number ns) x.0 → Contains ns x
+node_there ns x (k, l, e) =
+    let count : length (map number ns) ≡ length ns = length-map ns number in
+    let less : k < length ns = omega (arith, l, count) in
+    let same : number (get_or ns k x) ≡ x.0 = sym (get_or-map number ns k x x.0 less) ∙ e in
+    (k, less, ap (λ (n : ℕ). record { 0 = n }) same)
+
+pub one_order : (xs : List ℕ) (ns ms : List Node) → HaveTheSame xs (map number ns) → HaveTheSame xs (map number ms) → Rising ns → Rising ms → ns ≡ ms
 one_order xs ns ms p q r s =
-    let there : IsPermutation ns ms = IsPermutation-trans ns xs ms (IsPermutation-sym xs ns p) q in
-    same_rising ns ms r s (λ x i. Contains-permutation ns ms x there i) (λ x i. Contains-permutation ms ns x (IsPermutation-sym ns ms there) i)
+    same_rising ns ms r s
+    (λ x i. node_there ms x ((q x.0).0 ((p x.0).1 (number_there ns x i))))
+    (λ x i. node_there ns x ((p x.0).0 ((q x.0).1 (number_there ms x i))))

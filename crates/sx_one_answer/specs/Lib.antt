@@ -1,2 +1,3 @@
 pub mod Same
 pub mod Agree
+pub mod Decided

@@ -3,4 +3,4 @@
 
 mod laws;
 
-pub use laws::answers_agree;
+pub use laws::{answers_agree, programs_are_decided};

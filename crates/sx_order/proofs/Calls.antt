@@ -26,9 +26,9 @@ use Rattle.sx_calls.specs.declared.passed.Pairing.{Pairing}
 use Rattle.sx_calls.specs.declared.passed.Passed.{Passed}
 use Rattle.sx_calls.specs.Parts.{JudgedArgument}
 use Rattle.sx_calls.specs.Calls.{nothing_passed, run_arguments, has_failed, broken_call, call_expr, function_called, broken_method, method_expr, method_called, value_called, initialised, print_called, pairing, called, shapes, run_call, callee_in, call_value}
-use Rattle.sx_order.specs.Order.{Lies, Spans, Stays, Anything, IsAt, Takes, Anywhere, Within}
+use Rattle.sx_order.specs.Order.{Lies, Start, since, Spans, Stays, Anything, IsAt, Takes, Anywhere, Within}
 use Rattle.sx_order.specs.Parts.{SpanArguments}
-use Rattle.sx_order.proofs.Spans.{▷-spans, both-spans, fault-stays, typed-stays, depends-stays, need-stays, unless_broken-stays, cond-stays, numbered-takes, leaf-takes, at-within, earlier}
+use Rattle.sx_order.proofs.Spans.{▷-spans, both-spans, fault-stays, typed-first, typed-stays, depends-stays, need-stays, unless_broken-stays, cond-stays, numbered-takes, leaf-takes, at-within, earlier}
 use Rattle.sx_order.proofs.Callees.{called_name-stays}
 use Rattle.sx_order.proofs.Arguments.{run_arguments-spans}
 
@@ -69,18 +69,18 @@ module _ (d : Declarations) where
   called-stays q n site counted (callee.Initialiser t) a i = initialised-stays d q n site counted t a.given (declared_type d t) i
   called-stays q n site counted callee.Print a i = print_called-stays q n site counted a.printed i
 
-  pub run_call-spans : (p : Place) (q : Asked) (n : Node) (site : ℕ) (args : List JudgedArgument) (k lo mid hi : ℕ) (v : Verdict Callee) (pairs : Pairing) → lo ≤ mid → hi ≡ k + mid → Lies lo hi n →
-      Spans lo mid Anything v → SpanArguments k args → Spans lo hi (IsAt n) (run_call d p q n site args v pairs)
+  pub run_call-spans : {old : Start} (p : Place) (q : Asked) (n : Node) (site : ℕ) (args : List JudgedArgument) (k lo mid hi : ℕ) (v : Verdict Callee) (pairs : Pairing) → lo ≤ mid → hi ≡ k + mid → Lies lo hi n →
+      Spans old lo mid Anything v → SpanArguments k args → Spans old lo hi (IsAt n) (run_call d p q n site args v pairs)
   run_call-spans p q n site args k lo mid hi v pairs a s i h t =
-      let arguments : (w : Walk) → w.next ≡ mid → Spans mid hi Anything (run_arguments p (typed nothing_passed w) pairs.slots args) =
-      λ w e. run_arguments-spans p args pairs.slots k mid mid hi (typed nothing_passed w) (omega arith) s (record { holds = (e, tt) }) t in
+      let arguments : (w : Walk) → w.next ≡ mid → Spans (since w) mid hi Anything (run_arguments p (typed nothing_passed w) pairs.slots args) =
+      λ w e. run_arguments-spans p args pairs.slots k mid mid hi (typed nothing_passed w) (omega arith) s (typed-first nothing_passed w e tt) t in
       ▷-spans (both v (λ w. run_arguments p (typed nothing_passed w) pairs.slots args)) (called d q n site pairs.counted)
       (both-spans v (λ w. run_arguments p (typed nothing_passed w) pairs.slots args) a (omega (arith, s)) h arguments)
       (λ x _. called-stays q n site pairs.counted x.0 x.1 i)
 
   -- a call takes the nodes of its arguments, behind those of what is called
-  pub call_value-spans : (p : Place) (q : Asked) (n : Node) (site : ℕ) (args : List JudgedArgument) (k lo mid hi : ℕ) (v : Verdict Callee) → lo ≤ mid → hi ≡ k + mid → Lies lo hi n →
-      Spans lo mid Anything v → SpanArguments k args → Spans lo hi (IsAt n) (call_value d p q n site args v)
+  pub call_value-spans : {old : Start} (p : Place) (q : Asked) (n : Node) (site : ℕ) (args : List JudgedArgument) (k lo mid hi : ℕ) (v : Verdict Callee) → lo ≤ mid → hi ≡ k + mid → Lies lo hi n →
+      Spans old lo mid Anything v → SpanArguments k args → Spans old lo hi (IsAt n) (call_value d p q n site args v)
   call_value-spans p q n site args k lo mid hi v a s i h t = run_call-spans p q n site args k lo mid hi v (pairing d (callee_in d v) (shapes d args)) a s i h t
 
   -- a name that is called with its arguments behind it: the call, the name and the arguments
@@ -89,7 +89,7 @@ module _ (d : Declarations) where
   named_call-takes p q site x args k t =
       numbered-takes Within (k + 1) (λ n w. call_value d p q n site args (numbered (λ m. called_name d p m site x) w))
       (λ lo hi n at sum w e.
-      let callee : Spans (suc lo) (1 + suc lo) Anything (numbered (λ m. called_name d p m site x) w) =
+      let callee : Spans (since w) (suc lo) (1 + suc lo) Anything (numbered (λ m. called_name d p m site x) w) =
       leaf-takes Anywhere (λ m. called_name d p m site x) (λ here m is. called_name-stays d p m site x (omega (arith, is), omega (arith, is))) (suc lo) w e in
       let v : Verdict Callee = numbered (λ m. called_name d p m site x) w in
       let i : Lies lo hi n = (omega (arith, at), omega (arith, at, sum)) in

@@ -1,4 +1,5 @@
 pub mod Rising
+pub mod Growing
 pub mod Spans
 pub mod Lists
 pub mod WrittenTypes

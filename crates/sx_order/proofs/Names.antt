@@ -28,6 +28,7 @@ use Rattle.sx_scope.specs.Walks.{with_mention}
 use Rattle.sx_scope.specs.Paths.{an_expr, property_of, global_of}
 use Rattle.sx_scope.specs.Names.{agrees, local_broken, mention_by, local_expr, local_typed, local_known, local_value, local_of, comes_late, known_in, known_type, variable_type, variable_value, is_plain, property_value, global_variable, function_typed, self_broken, type_failed, self_mention, self_expr, self_unless, self_typed, self_by, self_value, implied_node, implied_self, function, function_value, method_value, symbol_value, global_value, implied_property, implied_member, outer_value, member_here, member, name_by, name_value, member_found, member_value}
 use Rattle.sx_order.specs.Order.{Lies, Stays, Anything, IsAt}
+use Rattle.sx_order.proofs.Growing.{stands-same}
 use Rattle.sx_order.proofs.Spans.{▷-spans, fault-stays, typed-stays, untold-stays, depends-stays, need-stays, unless_broken-stays, cond-stays}
 use Rattle.sx_order.proofs.Values.{local_expr-at, self_expr-at, property_of-at, global_of-at}
 
@@ -35,7 +36,7 @@ use Rattle.sx_order.proofs.Values.{local_expr-at, self_expr-at, property_of-at, 
 pub local_typed-stays : {lo hi : ℕ} (q : Asked) (u : Use) (n : Node) (site : ℕ) (crossed : Bool) (l : Local) (t : Ty) → Lies lo hi n → Stays lo hi (IsAt n) (local_typed q u n site crossed l t)
 local_typed-stays q u n site crossed l t i =
     unless_broken-stays (local_broken q u crossed l t) n (λ w. typed (local_expr l.kind n site t l.node) (with_mention (mention_by l.kind l.node t) w)) i
-    (λ w e. record { holds = (e, local_expr-at l.kind n site t l.node) })
+    (λ w e. record { holds = (stands-same w (with_mention (mention_by l.kind l.node t) w) refl refl e.stands, local_expr-at l.kind n site t l.node) })
 
 pub local_known-stays : {lo hi : ℕ} (q : Asked) (u : Use) (n : Node) (site : ℕ) (crossed : Bool) (l : Local) (k : Known) → Lies lo hi n → Stays lo hi (IsAt n) (local_known q u n site crossed l k)
 local_known-stays q u n site crossed l (known.Type t) i = local_typed-stays q u n site crossed l t i
@@ -81,7 +82,7 @@ module _ (d : Declarations) where
   pub self_unless-stays : {lo hi : ℕ} (p : Place) (q : Asked) (n m : Node) (site : ℕ) (s : SelfValue) → Lies lo hi n → Stays lo hi (IsAt m) (self_unless d p q n m site s)
   self_unless-stays p q n m site s i =
       unless_broken-stays (self_broken p q s) n (λ w. typed (self_expr d m site s) (with_mention (self_mention d s) w)) i
-      (λ w e. record { holds = (e, self_expr-at d m site s) })
+      (λ w e. record { holds = (stands-same w (with_mention (self_mention d s) w) refl refl e.stands, self_expr-at d m site s) })
 
   pub self_typed-stays : {lo hi : ℕ} (p : Place) (q : Asked) (n m : Node) (site : ℕ) (s : SelfValue) → Lies lo hi n → Stays lo hi (IsAt m) (self_typed d p q n m site s)
   self_typed-stays p q n m site s i = cond-stays (type_failed d s.ty) depends (self_unless d p q n m site s) depends-stays (self_unless-stays p q n m site s i)

@@ -19,16 +19,16 @@ use Rattle.sx_scope.specs.Verdict.{Verdict, typed, depends, Judging, both}
 use Rattle.sx_scope.specs.Walks.{numbered}
 use Rattle.sx_scope.specs.Names.{type_failed}
 use Rattle.sx_scope.specs.WrittenTypes.{JudgedParameter, may_be_parameters, func_by, number_of, function_type, parameter_added, run_parameters, type_parameter_step, named_type, type_named, function_made, function_step, type_form_step, type_step, judged_type, judged_parameter, judged_option}
-use Rattle.sx_order.specs.Order.{Lies, Spans, Stays, Takes, Anything, Anywhere, AllTake}
+use Rattle.sx_order.specs.Order.{Lies, Start, since, Spans, Stays, Takes, Anything, Anywhere, AllTake}
 use Rattle.sx_order.proofs.Lists.{list-spans}
-use Rattle.sx_order.proofs.Spans.{▷-spans, both-spans, spans-to, fault-stays, typed-stays, depends-stays, need-stays, cond-stays, numbered-takes, leaf-takes, earlier}
+use Rattle.sx_order.proofs.Spans.{▷-spans, both-spans, spans-to, fault-stays, typed-first, typed-stays, depends-stays, need-stays, cond-stays, numbered-takes, leaf-takes, earlier}
 
 pub func_by-stays : {lo hi : ℕ} (o : Option ℕ) → Stays lo hi Anything (func_by o)
 func_by-stays None = depends-stays
 func_by-stays (Some f) = typed-stays (ty.Func f) tt
 
 -- parameters one after another
-pub run_parameters-spans : (ps : List JudgedParameter) (n lo mid hi : ℕ) (v : Verdict (List FunctionParameter)) → lo ≤ mid → hi ≡ n + mid → Spans lo mid Anything v → AllTake n ps → Spans lo hi Anything (run_parameters v ps)
+pub run_parameters-spans : {old : Start} (ps : List JudgedParameter) (n lo mid hi : ℕ) (v : Verdict (List FunctionParameter)) → lo ≤ mid → hi ≡ n + mid → Spans old lo mid Anything v → AllTake n ps → Spans old lo hi Anything (run_parameters v ps)
 run_parameters-spans ps n lo mid hi v l s h t =
     list-spans run_parameters (λ p. p) parameter_added (λ v. refl) (λ v p ps. refl) (λ lo hi q. typed-stays (q.0 ++ q.1 ∷ []) tt) ps n lo mid hi v l s h (subst (AllTake n) (sym (map-id ps)) t)
 
@@ -47,10 +47,10 @@ module _ (d : Declarations) where
       need-stays (may_be_parameters p.0) kind.Mismatch n (func_by f) l (func_by-stays f)
 
   pub function_step-spans : (n : Node) (ps : List JudgedParameter) (r : Judging Ty) (k m lo mid hi : ℕ) (w : Walk) → w.next ≡ mid → lo ≤ mid → hi ≡ m + (k + mid) → Lies lo hi n →
-      AllTake k ps → Takes m Anywhere r → Spans lo hi Anything (function_step d n ps r w)
+      AllTake k ps → Takes m Anywhere r → Spans (since w) lo hi Anything (function_step d n ps r w)
   function_step-spans n ps r k m lo mid hi w e l s i a t =
-      let parameters : Spans lo (k + mid) Anything (run_parameters (typed [] w) ps) = run_parameters-spans ps k lo mid (k + mid) (typed [] w) l refl (record { holds = (e, tt) }) a in
-      let result : (v : Walk) → v.next ≡ k + mid → Spans (k + mid) hi Anything (r v) = λ v f. spans-to (r v) (sym s) (t (k + mid) v f) in
+      let parameters : Spans (since w) lo (k + mid) Anything (run_parameters (typed [] w) ps) = run_parameters-spans ps k lo mid (k + mid) (typed [] w) l refl (typed-first [] w e tt) a in
+      let result : (v : Walk) → v.next ≡ k + mid → Spans (since v) (k + mid) hi Anything (r v) = λ v f. spans-to (r v) (sym s) (t (k + mid) v f) in
       ▷-spans (both (run_parameters (typed [] w) ps) r) (function_made d n) (both-spans (run_parameters (typed [] w) ps) r (omega arith) (omega (arith, s)) parameters result) (λ p _. function_made-stays n p i)
 
   -- ---- by induction over the type: the judgements and the places of its parts
@@ -146,5 +146,5 @@ module _ (d : Declarations) where
       ▷-spans (judged_type d p.ty w) (λ t. typed (record { inout = p.inout; ty = t })) (judged_type-takes p.ty lo w e) (λ t _. typed-stays (record { inout = p.inout; ty = t }) tt)
 
   pub judged_option-takes : (o : Option WrittenType) → Takes (length (nodes.option_places nodes.type_places o)) Anywhere (judged_option d o)
-  judged_option-takes None lo w e = record { holds = (omega (arith, e), tt) }
+  judged_option-takes None lo w e = typed-first None w (omega (arith, e)) tt
   judged_option-takes (Some t) lo w e = ▷-spans (judged_type d t w) (λ u. typed (Some u)) (judged_type-takes t lo w e) (λ u _. typed-stays (Some u) tt)

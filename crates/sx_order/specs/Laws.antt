@@ -6,6 +6,7 @@ use Rattle.sx_scope.specs.declared.declarations.Declarations.{Declarations}
 use Rattle.sx_scope.specs.WrittenTypes.{judged_type}
 use Rattle.sx_order.specs.Order.{Takes, Anywhere}
 
--- A written type takes as many nodes as it has places, and its failing nodes stand in the order of the nodes.
+-- A written type takes as many nodes as it has places, and its failing nodes stand in the order of the nodes, as do the functions
+-- found.
 abbrev pub WrittenTypesTakeTheirPlaces : Type 0
 WrittenTypesTakeTheirPlaces = (d : Declarations) (t : WrittenType) → Takes (length (type_places t)) Anywhere (judged_type d t)

@@ -1,8 +1,9 @@
 -- Where the failing nodes of a judgement lie: in walking order their numbers rise, from the node that the walk began at to the one
--- behind it.
-use Rattle.std.specs.Prelude.{◌≡◌, ℕ, ◌+◌, ◌≤◌, ◌<◌, List, [], ◌∷◌}
+-- behind it. So do the nodes of the functions that the walk finds.
+use Rattle.std.specs.Prelude.{◌≡◌, ℕ, suc, ◌+◌, ◌≤◌, ◌<◌, List, [], ◌∷◌, ◌++◌}
 use Rattle.sx_span.specs.declared.places.Node.{Node}
 use Rattle.sx_typed.specs.declared.code.Expr.{Expr}
+use Rattle.sx_typed.specs.declared.program.Function.{Function}
 use Rattle.sx_scope.specs.declared.stop.TypeStop.{TypeStop}
 use Rattle.sx_scope.specs.declared.stop.TypeStop.TheVariants.{Typing, TooWide, Late, NoMemory}
 use Rattle.sx_scope.specs.declared.walk.Walk.{Walk}
@@ -24,23 +25,62 @@ abbrev pub Rising : ℕ → ℕ → List TypeStop → Type 0
 Rising lo hi [] = Unit {0}
 Rising lo hi (f ∷ fs) = (lo ≤ number_of f) × (number_of f < hi) × Rising (number_of f) hi fs
 
-abbrev pub Spanned : {A : Type 0} → ℕ → ℕ → (A → Type 0) → Verdict A → Type 0
-Spanned lo hi Q (typed a w) = (w.next ≡ hi) × Q a
-Spanned lo hi Q (untold w) = w.next ≡ hi
-Spanned lo hi Q (depends w) = w.next ≡ hi
-Spanned lo hi Q (fails f fs w) = (w.next ≡ hi) × Rising lo hi (f ∷ fs)
+-- functions from node lo on and before node hi, each at a greater node than the one ahead of it
+abbrev pub FunctionsRise : ℕ → ℕ → List Function → Type 0
+FunctionsRise lo hi [] = Unit {0}
+FunctionsRise lo hi (f ∷ fs) = (lo ≤ f.node.0) × (f.node.0 < hi) × FunctionsRise (suc f.node.0) hi fs
 
--- The walk then stands at node hi, what is typed is as Q says, and the nodes that fail lie from lo to before hi, in order.
-pub record Spans {A : Type 0} (lo hi : ℕ) (Q : A → Type 0) (v : Verdict A) : Type 0 where
-  pub holds : Spanned lo hi Q v
+-- where a walk begins: the functions found before it, and the node from which on it may find more
+pub record Start : Type 0 where
+  pub functions : List Function
+  pub from : ℕ
 
--- what takes no node, where the walk stands at node hi
+abbrev pub starting : List Function → ℕ → Start
+starting functions from = record { functions = functions; from = from }
+
+-- it begins where this walk stands
+abbrev pub since : Walk → Start
+since w = starting w.literals w.next
+
+-- Behind the functions found before are those found since, which rise before node hi.
+pub record Grows (old : Start) (hi : ℕ) (functions : List Function) : Type 0 where
+  pub found : List Function
+  pub grown : functions ≡ old.functions ++ found
+  pub rise : FunctionsRise old.from hi found
+
+-- a walk that began there stands at node hi
+pub record Stands (old : Start) (hi : ℕ) (w : Walk) : Type 0 where
+  pub next : w.next ≡ hi
+  pub begun : old.from ≤ hi
+  pub grows : Grows old hi w.literals
+
+-- so it stands, wherever it began
+pub record Reaches (hi : ℕ) (w : Walk) : Type 0 where
+  pub start : Start
+  pub stands : Stands start hi w
+
+abbrev pub Spanned : {A : Type 0} → Start → ℕ → ℕ → (A → Type 0) → Verdict A → Type 0
+Spanned old lo hi Q (typed a w) = Stands old hi w × Q a
+Spanned old lo hi Q (untold w) = Stands old hi w
+Spanned old lo hi Q (depends w) = Stands old hi w
+Spanned old lo hi Q (fails f fs w) = Stands old hi w × Rising lo hi (f ∷ fs)
+
+-- The walk that began there then stands at node hi, what is typed is as Q says, and the nodes that fail lie from lo to before hi,
+-- in order.
+pub record Spans {A : Type 0} (old : Start) (lo hi : ℕ) (Q : A → Type 0) (v : Verdict A) : Type 0 where
+  pub holds : Spanned old lo hi Q v
+
+-- what takes no node and finds no function, where the walk stands at node hi
 abbrev pub Stays : {A : Type 0} → ℕ → ℕ → (A → Type 0) → Judging A → Type 0
-Stays lo hi Q m = (w : Walk) → w.next ≡ hi → Spans lo hi Q (m w)
+Stays lo hi Q m = (w : Walk) (e : Reaches hi w) → Spans e.start lo hi Q (m w)
 
 -- what takes so many nodes, wherever the walk stands; Q is told from where to where
 abbrev pub Takes : {A : Type 0} → ℕ → (ℕ → ℕ → A → Type 0) → Judging A → Type 0
-Takes n Q m = (lo : ℕ) (w : Walk) → w.next ≡ lo → Spans lo (n + lo) (Q lo (n + lo)) (m w)
+Takes n Q m = (lo : ℕ) (w : Walk) → w.next ≡ lo → Spans (since w) lo (n + lo) (Q lo (n + lo)) (m w)
+
+-- a change of the walk that keeps its next node and the functions found
+abbrev pub Keeps : (Walk → Walk) → Type 0
+Keeps g = (w : Walk) → ((g w).next ≡ w.next) × ((g w).literals ≡ w.literals)
 
 -- what is said of what is typed: nothing; that its node lies there; that it has this node; both of two parts
 abbrev pub Anything : {A : Type 0} → A → Type 0

@@ -18,21 +18,21 @@ use Rattle.sx_scope.specs.Verdict.{Verdict, typed, ◌▷◌, both, fault, need}
 use Rattle.sx_scope.specs.WrittenTypes.{is_void}
 use Rattle.sx_calls.specs.Parts.{JudgedExpr, JudgedStatement, JudgedElse}
 use Rattle.sx_bodies.specs.Statements.{statement, block, else_block, if_made, if_statement, in_loop, while_made, while_statement, returned, return_with, return_alone, return_by, return_statement, leaving}
-use Rattle.sx_order.specs.Order.{Lies, Spans, Stays, Takes, Anything, Anywhere}
+use Rattle.sx_order.specs.Order.{Lies, since, Spans, Stays, Takes, Anything, Anywhere}
 use Rattle.sx_order.specs.Parts.{SpansExpr, SpanStatements, SpansElse}
-use Rattle.sx_order.proofs.Spans.{▷-spans, both-spans, cond-spans, fault-stays, typed-stays, need-stays, numbered-takes, leaf-takes, wider, anything, takes-as}
+use Rattle.sx_order.proofs.Spans.{▷-spans, both-spans, cond-spans, fault-stays, typed-first, typed-stays, need-stays, numbered-takes, leaf-takes, wider, anything, takes-as}
 use Rattle.sx_order_code.specs.Tied.{SpansOptional}
 use Rattle.sx_order.proofs.Own.{later-spans}
 use Rattle.sx_order_code.proofs.Statements.{block-takes}
 
 pub else_block-takes : (p : Place) (b : JudgedElse) (n : ℕ) → SpansElse n b → Takes n Anywhere (else_block p b)
-else_block-takes p JudgedElse.Absent n t lo w e = record { holds = (omega (arith, e, t), tt) }
+else_block-takes p JudgedElse.Absent n t lo w e = typed-first [] w (omega (arith, e, t)) tt
 else_block-takes p (JudgedElse.Block ss) n t lo w e = takes-as Anywhere (else_block p (JudgedElse.Block ss)) (sym t.1) (block-takes p ss t.0 t.2) lo w e
 else_block-takes p (JudgedElse.ElseIf s) n t lo w e =
     ▷-spans (s.value p w) (λ x. typed (x ∷ [])) (t.takes p lo w e) (λ x _. typed-stays (x ∷ []) tt)
 
 -- the condition
-pub condition-spans : (p : Place) (c : JudgedExpr) (k lo : ℕ) (w : Walk) → w.next ≡ suc lo → SpansExpr k c → Spans lo (k + suc lo) Anything (c.value p (asked.Type ty.Bool) uses.Kept w)
+pub condition-spans : (p : Place) (c : JudgedExpr) (k lo : ℕ) (w : Walk) → w.next ≡ suc lo → SpansExpr k c → Spans (since w) lo (k + suc lo) Anything (c.value p (asked.Type ty.Bool) uses.Kept w)
 condition-spans p c k lo w e t =
     let v : Verdict Expr = c.value p (asked.Type ty.Bool) uses.Kept w in
     anything v (wider lo (k + suc lo) v (omega arith) refl (t.takes p (asked.Type ty.Bool) uses.Kept (suc lo) w e))
@@ -47,7 +47,7 @@ if_statement-takes c a b site k j m p r s t =
     let v : Verdict Expr = c.value p (asked.Type ty.Bool) uses.Kept w in
     let one : ℕ = k + suc lo in
     let two : ℕ = suc j + one in
-    let first : Spans lo two _ (both v (block p a)) =
+    let first : Spans (since w) lo two _ (both v (block p a)) =
     both-spans {Q = Anything} {R = Anything} v (block p a) (omega arith) (omega arith) (condition-spans p c k lo w f r) (λ u i. block-takes p a j s one u i) in
     ▷-spans (both (both v (block p a)) (else_block p b)) (if_made site)
     (both-spans {R = Anything} (both v (block p a)) (else_block p b) (omega arith) (omega (arith, sum)) first (λ u i. later-spans (else_block p b) m two hi u (omega (arith, sum)) i (else_block-takes p b m t)))
@@ -72,12 +72,12 @@ return_alone-stays gives.Nothing site n l = fault-stays kind.BreakOutside n l
 return_alone-stays gives.Unknown site n l = typed-stays (statement site (statements.Return None)) tt
 return_alone-stays (gives.Type t) site n l = need-stays (is_void t) kind.Mismatch n (returned site None) l (typed-stays (statement site (statements.Return None)) tt)
 
-pub asked-spans : (e : JudgedExpr) (p : Place) (q : Asked) (k lo hi : ℕ) (w : Walk) → hi ≡ k + suc lo → w.next ≡ suc lo → SpansExpr k e → Spans lo hi Anything (e.value p q uses.Kept w)
+pub asked-spans : (e : JudgedExpr) (p : Place) (q : Asked) (k lo hi : ℕ) (w : Walk) → hi ≡ k + suc lo → w.next ≡ suc lo → SpansExpr k e → Spans (since w) lo hi Anything (e.value p q uses.Kept w)
 asked-spans e p q k lo hi w s f t =
     let v : Verdict Expr = e.value p q uses.Kept w in
     anything v (wider lo hi v (omega arith) s (t.takes p q uses.Kept (suc lo) w f))
 
-pub return_with-spans : (g : Gives) (e : JudgedExpr) (site k lo hi : ℕ) (n : Node) (p : Place) (w : Walk) → Lies lo hi n → hi ≡ k + suc lo → w.next ≡ suc lo → SpansExpr k e → Spans lo hi Anything (return_with g e site n p w)
+pub return_with-spans : (g : Gives) (e : JudgedExpr) (site k lo hi : ℕ) (n : Node) (p : Place) (w : Walk) → Lies lo hi n → hi ≡ k + suc lo → w.next ≡ suc lo → SpansExpr k e → Spans (since w) lo hi Anything (return_with g e site n p w)
 return_with-spans gives.Nothing e site k lo hi n p w l s f t =
     ▷-spans (e.value p asked.Nothing uses.Kept w) (λ x. fault kind.BreakOutside n) (asked-spans e p asked.Nothing k lo hi w s f t) (λ x _. fault-stays kind.BreakOutside n l)
 return_with-spans gives.Unknown e site k lo hi n p w l s f t =

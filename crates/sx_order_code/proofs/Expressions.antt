@@ -19,12 +19,12 @@ use Rattle.sx_scope.specs.Paths.{an_expr}
 use Rattle.sx_calls.specs.Operators.{asked_first, given}
 use Rattle.sx_calls.specs.Parts.{JudgedExpr, JudgedLink, trailing}
 use Rattle.sx_check_expr.specs.Judge.{constant, bracketed, bracketed_value, negated, negated_value, inverted, inverted_value, chain_value, element_added, run_elements, array_made, array_value, named_call}
-use Rattle.sx_order.specs.Order.{Lies, Spans, Stays, Takes, Anything, Within, IsAt}
+use Rattle.sx_order.specs.Order.{Lies, Start, since, Spans, Stays, Takes, Anything, Within, IsAt}
 use Rattle.sx_order.specs.Parts.{SpansExpr, SpanExprs, SpanLinks}
 use Rattle.sx_order.proofs.Names.{name_value-stays, self_value-stays}
 use Rattle.sx_order.proofs.Operators.{given-stays, chain-takes}
 use Rattle.sx_order.proofs.Calls.{named_call-takes}
-use Rattle.sx_order.proofs.Spans.{▷-spans, run-spans, spans-to, typed-stays, numbered-takes, at-takes, at-within, wider, earlier}
+use Rattle.sx_order.proofs.Spans.{▷-spans, run-spans, spans-to, typed-first, typed-stays, numbered-takes, at-takes, at-within, wider, earlier}
 use Rattle.sx_order.proofs.Arguments.{trailing-span}
 
 pub constant-takes : (site : ℕ) (t : Ty) (f : Form) (p : Place) (q : Asked) (u : Use) → Takes 1 Within (constant site t f p q u)
@@ -38,7 +38,7 @@ operand-takes e p q k f h t =
     numbered-takes Within k (λ n w. e.value p q uses.Kept w ▷ f n)
     (λ lo hi n at sum w i.
     let v : Verdict Expr = e.value p q uses.Kept w in
-    let first : Spans lo hi (Within lo hi) v = wider lo hi v (omega arith) sum (t.takes p q uses.Kept (suc lo) w i) in
+    let first : Spans (since w) lo hi (Within lo hi) v = wider lo hi v (omega arith) sum (t.takes p q uses.Kept (suc lo) w i) in
     let l : Lies lo hi n = (omega (arith, at), omega (arith, at, sum)) in
     at-within n (v ▷ f n) l (▷-spans v (f n) first (λ x _. h lo hi n x l)))
 
@@ -61,12 +61,12 @@ chain_value-takes e ls site k n p q u t h = chain-takes p q site (e.value p (ask
 pub element_added-stays : {lo hi : ℕ} (x : List Expr × Expr) → Stays lo hi Anything (element_added x)
 element_added-stays x = typed-stays (x.0 ++ x.1 ∷ []) tt
 
-pub run_elements-spans : (p : Place) (es : List JudgedExpr) (n lo mid hi : ℕ) (v : Verdict (List Expr)) → lo ≤ mid → hi ≡ n + mid → Spans lo mid Anything v → SpanExprs n es → Spans lo hi Anything (run_elements p v es)
+pub run_elements-spans : {old : Start} (p : Place) (es : List JudgedExpr) (n lo mid hi : ℕ) (v : Verdict (List Expr)) → lo ≤ mid → hi ≡ n + mid → Spans old lo mid Anything v → SpanExprs n es → Spans old lo hi Anything (run_elements p v es)
 run_elements-spans p [] n lo mid hi v l s h t = spans-to v (omega (arith, s, t)) h
-run_elements-spans p (e ∷ es) n lo mid hi v l s h t =
+run_elements-spans {old = old} p (e ∷ es) n lo mid hi v l s h t =
     let (k, j, c, first, others) = t in
     let m = e.value p (asked.Type ty.Int) uses.Kept in
-    let one : Spans lo (k + mid) Anything (both v m ▷ element_added) =
+    let one : Spans old lo (k + mid) Anything (both v m ▷ element_added) =
     run-spans Anything v m element_added l (omega arith) h (first.takes p (asked.Type ty.Int) uses.Kept mid) (λ x _. element_added-stays x) in
     run_elements-spans p es j lo (k + mid) hi (both v m ▷ element_added) (omega arith) (omega (arith, s, c)) one others
 
@@ -75,7 +75,7 @@ array-takes es site k p q u t =
     numbered-takes Within k (λ n w. run_elements p (typed [] w) es ▷ array_made n site q)
     (λ lo hi n at sum w i.
     let l : Lies lo hi n = (omega (arith, at), omega (arith, at, sum)) in
-    let elements : Spans (suc lo) hi Anything (run_elements p (typed [] w) es) = run_elements-spans p es k (suc lo) (suc lo) hi (typed [] w) (omega arith) sum (record { holds = (i, tt) }) t in
+    let elements : Spans (since w) (suc lo) hi Anything (run_elements p (typed [] w) es) = run_elements-spans p es k (suc lo) (suc lo) hi (typed [] w) (omega arith) sum (typed-first [] w i tt) t in
     at-within n (run_elements p (typed [] w) es ▷ array_made n site q) l
     (▷-spans {R = IsAt n} (run_elements p (typed [] w) es) (array_made n site q) (earlier lo (run_elements p (typed [] w) es) (omega arith) elements)
     (λ x _. given-stays {Q = IsAt n} n q (an_expr n site ty.Array (forms.Elements x)) l refl)))

@@ -14,18 +14,19 @@ use Rattle.sx_scope.specs.Walks.{with_local}
 use Rattle.sx_scope.specs.WrittenTypes.{is_void}
 use Rattle.sx_calls.specs.Parts.{JudgedExpr}
 use Rattle.sx_bodies.specs.Statements.{statement, is_taken, local_named, unless_taken, is_fresh, fresh, asked_by_written, giving_in, type_by, declared_with, type_of, local_kind_of, local_form, declared_local, is_void_option, not_void_written, local_value, declares, local_statement}
-use Rattle.sx_order.specs.Order.{Lies, Spans, Stays, Takes, Anything, Anywhere}
+use Rattle.sx_order.specs.Order.{Lies, since, Keeps, Spans, Stays, Takes, Anything, Anywhere}
 use Rattle.sx_order.specs.Parts.{SpansExpr}
+use Rattle.sx_order.proofs.Growing.{reaches-first}
 use Rattle.sx_order.proofs.Spans.{▷-spans, both_by-spans, moved-spans, typed-stays, need-stays, numbered-takes, spans-to, anything}
 use Rattle.sx_order.proofs.Own.{own_both-spans, first-spans}
 
-pub either-next : (b : Bool) (w u : Walk) → u.next ≡ w.next → (cond b w u).next ≡ w.next
-either-next true w u h = refl
+pub either-next : (b : Bool) (w u : Walk) → (u.next ≡ w.next) × (u.literals ≡ w.literals) → ((cond b w u).next ≡ w.next) × ((cond b w u).literals ≡ w.literals)
+either-next true w u h = (refl, refl)
 either-next false w u h = h
 
--- what comes into scope is no node
-pub unless_taken-next : (from : ℕ) (l : Local) (w : Walk) → (unless_taken from l w).next ≡ w.next
-unless_taken-next from l w = either-next (is_taken from l.name w) w (with_local l w) refl
+-- what comes into scope is no node and no function
+pub unless_taken-next : (from : ℕ) (l : Local) → Keeps (unless_taken from l)
+unless_taken-next from l w = either-next (is_taken from l.name w) w (with_local l w) (refl, refl)
 
 pub fresh-stays : {lo hi : ℕ} (d : Declarations) (from x : ℕ) (n : Node) → Lies lo hi n → Stays lo hi Anything (fresh d from x n)
 fresh-stays d from x n l w e = need-stays (is_fresh d from x w) kind.Duplicate n (typed tt) l (typed-stays tt tt) w e
@@ -41,16 +42,16 @@ declared_local-stays constant n x site e = typed-stays (statement site (local_fo
 
 module _ (d : Declarations) where
   pub local_value-spans : (p : Place) (x : ℕ) (written : Bool) (ty : Judging (Option Ty)) (e : JudgedExpr) (k j lo hi : ℕ) (n : Node) (w : Walk) → n.0 ≡ lo → hi ≡ k + j + suc lo → w.next ≡ suc lo →
-      Takes k Anywhere ty → SpansExpr j e → Spans lo hi Anything (local_value d p x written ty e n w)
+      Takes k Anywhere ty → SpansExpr j e → Spans (since w) lo hi Anything (local_value d p x written ty e n w)
   local_value-spans p x written ty e k j lo hi n w at sum f t h =
       let mid : ℕ = k + suc lo in
-      let value : (o : Option (Option Ty)) (u : Walk) → u.next ≡ mid → Spans mid hi Anything (e.value (giving_in p written n) (asked_by_written o) uses.Kept u) =
+      let value : (o : Option (Option Ty)) (u : Walk) → u.next ≡ mid → Spans (since u) mid hi Anything (e.value (giving_in p written n) (asked_by_written o) uses.Kept u) =
       λ o u i. anything (e.value (giving_in p written n) (asked_by_written o) uses.Kept u) (spans-to (e.value (giving_in p written n) (asked_by_written o) uses.Kept u) (omega (arith, sum)) (h.takes (giving_in p written n) (asked_by_written o) uses.Kept mid u i)) in
-      let parts : (u : Walk) → u.next ≡ suc lo → Spans lo hi _ (both_by (ty u ▷ not_void_written n) (λ o. e.value (giving_in p written n) (asked_by_written o) uses.Kept)) =
+      let parts : (u : Walk) → u.next ≡ suc lo → Spans (since u) lo hi _ (both_by (ty u ▷ not_void_written n) (λ o. e.value (giving_in p written n) (asked_by_written o) uses.Kept)) =
       λ u i. both_by-spans {R = Anything} (ty u ▷ not_void_written n) (λ o. e.value (giving_in p written n) (asked_by_written o) uses.Kept) (omega arith) (omega (arith, sum))
       (▷-spans (ty u) (not_void_written n) (first-spans ty k lo mid u refl i t) (λ o _. not_void_written-stays n o (omega (arith, at), omega (arith, at)))) value in
       ▷-spans (both (fresh d p.outside_block x n w) (λ u. both_by (ty u ▷ not_void_written n) (λ o. e.value (giving_in p written n) (asked_by_written o) uses.Kept))) (declared_with n)
-      (own_both-spans (fresh d p.outside_block x n w) (λ u. both_by (ty u ▷ not_void_written n) (λ o. e.value (giving_in p written n) (asked_by_written o) uses.Kept)) (omega (arith, sum)) (fresh-stays d p.outside_block x n (omega (arith, at), omega (arith, at)) w f) parts)
+      (own_both-spans (fresh d p.outside_block x n w) (λ u. both_by (ty u ▷ not_void_written n) (λ o. e.value (giving_in p written n) (asked_by_written o) uses.Kept)) (omega (arith, sum)) (fresh-stays d p.outside_block x n (omega (arith, at), omega (arith, at)) w (reaches-first w f)) parts)
       (λ y _. declared_with-stays n y (omega (arith, at), omega (arith, at, sum)))
 
   pub local_statement-takes : (constant : Bool) (x site : ℕ) (written : Bool) (ty : Judging (Option Ty)) (e : JudgedExpr) (k j : ℕ) (p : Place) → Takes k Anywhere ty → SpansExpr j e → Takes (suc (k + j)) Anywhere (local_statement d constant x site written ty e p)

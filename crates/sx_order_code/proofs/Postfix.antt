@@ -15,7 +15,7 @@ use Rattle.sx_scope.specs.Names.{called_member, called_name, member_value}
 use Rattle.sx_calls.specs.Parts.{JudgedExpr, JudgedArgument, JudgedPart, trailing, own_nodes, asked_before}
 use Rattle.sx_calls.specs.Calls.{call_value, index_value}
 use Rattle.sx_check_expr.specs.Judge.{called_value, callee_by, callee, run_parts, run_first, postfix_value}
-use Rattle.sx_order.specs.Order.{Lies, Spans, Takes, Anything, Anywhere, Within, IsAt}
+use Rattle.sx_order.specs.Order.{Lies, Start, since, Spans, Takes, Anything, Anywhere, Within, IsAt}
 use Rattle.sx_order.specs.Parts.{SpansExpr, SpanArguments, SpanExprs, SpanParts}
 use Rattle.sx_order.proofs.Names.{member_value-stays}
 use Rattle.sx_order.proofs.Callees.{callable-stays, called_member-stays, called_name-stays}
@@ -26,39 +26,39 @@ use Rattle.sx_order.proofs.Spans.{▷-spans, numbered_many-takes, leaf-takes, ta
 use Rattle.sx_order_code.specs.Tied.{IsOneIf}
 
 -- what is called fails where it stands
-pub called_value-spans : {lo hi : ℕ} (v : Verdict Expr) → Spans lo hi (Within lo hi) v → Spans lo hi Anything (v ▷ called_value)
+pub called_value-spans : {old : Start} {lo hi : ℕ} (v : Verdict Expr) → Spans old lo hi (Within lo hi) v → Spans old lo hi Anything (v ▷ called_value)
 called_value-spans v h = ▷-spans v called_value h (λ e i. callable-stays e.node e i)
 
 module _ (d : Declarations) where
   -- a call at node n, behind what is called
-  pub call_at-spans : (p : Place) (q : Asked) (n site : ℕ) (as_ : List JudgedArgument) (k lo mid : ℕ) (v : Verdict Callee) → lo ≤ n → suc n ≤ mid → Spans lo mid Anything v → SpanArguments k as_ →
-      Spans lo (k + mid) (Within lo (k + mid)) (call_value d p q (node n) site as_ v)
+  pub call_at-spans : {old : Start} (p : Place) (q : Asked) (n site : ℕ) (as_ : List JudgedArgument) (k lo mid : ℕ) (v : Verdict Callee) → lo ≤ n → suc n ≤ mid → Spans old lo mid Anything v → SpanArguments k as_ →
+      Spans old lo (k + mid) (Within lo (k + mid)) (call_value d p q (node n) site as_ v)
   call_at-spans p q n site as_ k lo mid v a b h t =
       let l : Lies lo (k + mid) (node n) = (a, omega (arith, b)) in
       at-within (node n) (call_value d p q (node n) site as_ v) l (call_value-spans d p q (node n) site as_ k lo mid (k + mid) v (omega (arith, a, b)) refl l h t)
 
   -- a member that is called: the call is node n, and the member the node behind it
-  pub method-spans : (p : Place) (q : Asked) (n site : ℕ) (this : Bool) (x : ℕ) (as_ : List JudgedArgument) (k lo mid : ℕ) (v : Verdict Expr) → lo ≤ n → 2 + n ≤ mid → Spans lo mid (Within lo mid) v → SpanArguments k as_ →
-      Spans lo (k + mid) (Within lo (k + mid)) (call_value d p q (node n) site as_ (v ▷ called_member d p (node (1 + n)) site this x))
-  method-spans p q n site this x as_ k lo mid v a b h t =
-      let called : Spans lo mid Anything (v ▷ called_member d p (node (1 + n)) site this x) =
+  pub method-spans : {old : Start} (p : Place) (q : Asked) (n site : ℕ) (this : Bool) (x : ℕ) (as_ : List JudgedArgument) (k lo mid : ℕ) (v : Verdict Expr) → lo ≤ n → 2 + n ≤ mid → Spans old lo mid (Within lo mid) v → SpanArguments k as_ →
+      Spans old lo (k + mid) (Within lo (k + mid)) (call_value d p q (node n) site as_ (v ▷ called_member d p (node (1 + n)) site this x))
+  method-spans {old = old} p q n site this x as_ k lo mid v a b h t =
+      let called : Spans old lo mid Anything (v ▷ called_member d p (node (1 + n)) site this x) =
       ▷-spans v (called_member d p (node (1 + n)) site this x) h (λ e _. called_member-stays d p (node (1 + n)) site this x e (omega (arith, a), omega (arith, b))) in
       call_at-spans p q n site as_ k lo mid (v ▷ called_member d p (node (1 + n)) site this x) a (omega (arith, b)) called t
 
-  pub member-spans : (p : Place) (q : Asked) (n site : ℕ) (this : Bool) (x lo mid : ℕ) (v : Verdict Expr) → lo ≤ n → suc n ≤ mid → Spans lo mid (Within lo mid) v → Spans lo mid (Within lo mid) (v ▷ member_value d p q (node n) site this x)
+  pub member-spans : {old : Start} (p : Place) (q : Asked) (n site : ℕ) (this : Bool) (x lo mid : ℕ) (v : Verdict Expr) → lo ≤ n → suc n ≤ mid → Spans old lo mid (Within lo mid) v → Spans old lo mid (Within lo mid) (v ▷ member_value d p q (node n) site this x)
   member-spans p q n site this x lo mid v a b h =
       let l : Lies lo mid (node n) = (a, omega (arith, b)) in
       at-within (node n) (v ▷ member_value d p q (node n) site this x) l (▷-spans {R = IsAt (node n)} v (member_value d p q (node n) site this x) h (λ e _. member_value-stays d p q (node n) site this x e l))
 
-  pub index-spans : (p : Place) (q : Asked) (n site : ℕ) (is : List JudgedExpr) (k lo mid : ℕ) (v : Verdict Expr) → lo ≤ n → suc n ≤ mid → Spans lo mid (Within lo mid) v → SpanExprs k is →
-      Spans lo (k + mid) (Within lo (k + mid)) (index_value d p q (node n) site is v)
+  pub index-spans : {old : Start} (p : Place) (q : Asked) (n site : ℕ) (is : List JudgedExpr) (k lo mid : ℕ) (v : Verdict Expr) → lo ≤ n → suc n ≤ mid → Spans old lo mid (Within lo mid) v → SpanExprs k is →
+      Spans old lo (k + mid) (Within lo (k + mid)) (index_value d p q (node n) site is v)
   index-spans p q n site is k lo mid v a b h t =
       let l : Lies lo (k + mid) (node n) = (a, omega (arith, b)) in
       at-within (node n) (index_value d p q (node n) site is v) l (index_value-spans d p q (node n) site is k lo mid (k + mid) v (omega (arith, a, b)) refl l (anything v h) t)
 
   -- the nodes that start at the operand come first, from `start` on
-  pub run_parts-spans : (p : Place) (q : Asked) (start site : ℕ) (this : Bool) (ps : List JudgedPart) (n lo mid hi : ℕ) (v : Verdict Expr) → lo ≤ start → own_nodes ps + start ≤ mid → hi ≡ n + mid →
-      Spans lo mid (Within lo mid) v → SpanParts n ps → Spans lo hi (Within lo hi) (run_parts d p q start site this v ps)
+  pub run_parts-spans : {old : Start} (p : Place) (q : Asked) (start site : ℕ) (this : Bool) (ps : List JudgedPart) (n lo mid hi : ℕ) (v : Verdict Expr) → lo ≤ start → own_nodes ps + start ≤ mid → hi ≡ n + mid →
+      Spans old lo mid (Within lo mid) v → SpanParts n ps → Spans old lo hi (Within lo hi) (run_parts d p q start site this v ps)
   run_parts-spans p q start site this [] n lo mid hi v a b s h t = wider lo hi v (omega arith) (omega (arith, s, t)) h
   run_parts-spans p q start site this (JudgedPart.Member x (Some c) ∷ ps) n lo mid hi v a b s h t =
       let (k, j, e, first, others) = t in
@@ -108,7 +108,7 @@ module _ (d : Declarations) where
   callee_by-takes p site e None k t one lo w i = called_value-spans (e.value p asked.Nothing uses.Kept w) (t.takes p asked.Nothing uses.Kept lo w i)
 
   pub run_uncalled-spans : (p : Place) (q : Asked) (start site : ℕ) (e : JudgedExpr) (ps : List JudgedPart) (k n lo hi : ℕ) (w : Walk) → start ≡ lo → hi ≡ k + n + (own_nodes ps + lo) → w.next ≡ own_nodes ps + lo →
-      SpansExpr k e → SpanParts n ps → Spans lo hi (Within lo hi) (run_parts d p q start site e.is_self (e.value p asked.Nothing uses.Kept w) ps)
+      SpansExpr k e → SpanParts n ps → Spans (since w) lo hi (Within lo hi) (run_parts d p q start site e.is_self (e.value p asked.Nothing uses.Kept w) ps)
   run_uncalled-spans p q start site e ps k n lo hi w at sum i s t =
       let mid : ℕ = k + (own_nodes ps + lo) in
       let v : Verdict Expr = e.value p asked.Nothing uses.Kept w in
@@ -116,7 +116,7 @@ module _ (d : Declarations) where
       (wider lo mid v (omega arith) refl (s.takes p asked.Nothing uses.Kept (own_nodes ps + lo) w i)) t
 
   pub run_first-spans : (p : Place) (q : Asked) (start site : ℕ) (e : JudgedExpr) (ps : List JudgedPart) (k n lo hi : ℕ) (w : Walk) → start ≡ lo → hi ≡ k + n + (own_nodes ps + lo) → w.next ≡ own_nodes ps + lo →
-      SpansExpr k e → IsOneIf e.name k → SpanParts n ps → Spans lo hi (Within lo hi) (run_first d p q start site e ps w)
+      SpansExpr k e → IsOneIf e.name k → SpanParts n ps → Spans (since w) lo hi (Within lo hi) (run_first d p q start site e ps w)
   run_first-spans p q start site e [] k n lo hi w at sum i s one t = run_uncalled-spans p q start site e [] k n lo hi w at sum i s t
   run_first-spans p q start site e (JudgedPart.Member x c ∷ ps) k n lo hi w at sum i s one t = run_uncalled-spans p q start site e (JudgedPart.Member x c ∷ ps) k n lo hi w at sum i s t
   run_first-spans p q start site e (JudgedPart.Index is ∷ ps) k n lo hi w at sum i s one t = run_uncalled-spans p q start site e (JudgedPart.Index is ∷ ps) k n lo hi w at sum i s t
@@ -127,7 +127,7 @@ module _ (d : Declarations) where
       let first : ℕ = suc (own_nodes ps + lo) in
       let mid : ℕ = k + first in
       let v : Verdict Callee = callee d p site e w in
-      let before : Spans first mid Anything v = callee_by-takes p site e e.name k s one first w (omega (arith, i)) in
+      let before : Spans (since w) first mid Anything v = callee_by-takes p site e e.name k s one first w (omega (arith, i)) in
       let u : Verdict Expr = call_value d p (asked_before ps q) (node here) site (as_ ++ trailing c) v in
       run_parts-spans p q start site false ps j lo (m + r + mid) hi u (omega (arith, at)) (omega (arith, at)) (omega (arith, sum, g, parts))
       (call_at-spans p (asked_before ps q) here site (as_ ++ trailing c) (m + r) lo mid v (omega (arith, at)) (omega (arith, at)) (earlier lo v (omega arith) before) (append-span as_ (trailing c) m r args (trailing-span c r closure))) behind

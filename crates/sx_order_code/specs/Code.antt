@@ -17,6 +17,7 @@ pub record CodeSpans (d : Declarations) : Type 0 where
   pub statements : (s : Statement) → SpansStatement (length (statement_places s)) (judged_statement d s)
   pub bodies : (p : Place) (b : Block) → Takes (length (block_places b)) Anywhere (numbered (λ n. body p (judged_block d b)))
 
--- Expressions, statements and bodies take as many nodes as they have places, and their failing nodes stand in the order of the nodes.
+-- Expressions, statements and bodies take as many nodes as they have places, and their failing nodes stand in the order of the nodes,
+-- as do the closure literals in them.
 abbrev pub CodeTakesItsPlaces : Type 0
 CodeTakesItsPlaces = (d : Declarations) → CodeSpans d

@@ -9,8 +9,8 @@ use Rattle.sx_scope.specs.declared.walk.Walk.{Walk}
 use Rattle.sx_scope.specs.Verdict.{Verdict, fails, failing, behind}
 use Rattle.sx_scope.specs.Walks.{node}
 use Rattle.sx_members.specs.Variables as variables
-use Rattle.sx_order.specs.Order.{Lies, number_of, Rising, Spans, Anything}
-use Rattle.sx_order.proofs.Spans.{▷-spans, behind-is, depends-stays, failing-rises}
+use Rattle.sx_order.specs.Order.{Lies, number_of, Rising, Start, Stands, Spans}
+use Rattle.sx_order.proofs.Spans.{▷-spans, behind-stands, depends-stays, failing-rises}
 
 pub same-number : (f : TypeStop) → variables.number_of f ≡ number_of f
 same-number (Typing kind n) = refl
@@ -37,19 +37,19 @@ with_stop-rises f lo hi (g ∷ gs) l u h =
     by true e rest = (h.0, h.1, rest (before-it g f e))
     by false e rest = (l, u, (behind-it g f e, h.1, h.2))
 
-pub failed_with-spans : (f : TypeStop) (lo hi : ℕ) (gs : List TypeStop) (w : Walk) → lo ≤ number_of f → number_of f < hi → w.next ≡ hi → Rising lo hi gs → Spans lo hi Anything (variables.failed_with f gs w)
+pub failed_with-spans : {old : Start} {Q : variables.VariableParts → Type 0} (f : TypeStop) (lo hi : ℕ) (gs : List TypeStop) (w : Walk) → lo ≤ number_of f → number_of f < hi → Stands old hi w → Rising lo hi gs → Spans old lo hi Q (variables.failed_with f gs w)
 failed_with-spans f lo hi [] w l u e h = record { holds = (e, (l, u, tt)) }
-failed_with-spans f lo hi (g ∷ gs) w l u e h = by (nat_le (variables.number_of g) (variables.number_of f)) refl
+failed_with-spans {old = old} {Q = Q} f lo hi (g ∷ gs) w l u e h = by (nat_le (variables.number_of g) (variables.number_of f)) refl
   where
-    by : (b : Bool) → nat_le (variables.number_of g) (variables.number_of f) ≡ b → Spans {A = variables.VariableParts} lo hi Anything (cond b (fails g (variables.with_stop f gs) w) (fails f (g ∷ gs) w))
+    by : (b : Bool) → nat_le (variables.number_of g) (variables.number_of f) ≡ b → Spans {A = variables.VariableParts} old lo hi Q (cond b (fails g (variables.with_stop f gs) w) (fails f (g ∷ gs) w))
     by true q = record { holds = (e, (h.0, h.1, with_stop-rises f (number_of g) hi gs (before-it g f q) u h.2)) }
     by false q = record { holds = (e, (l, u, (behind-it g f q, h.1, h.2))) }
 
-pub kept-spans : (k : Known) (o : Option TypeStop) (v : Verdict variables.VariableParts) (lo hi : ℕ) → ((f : TypeStop) → o ≡ Some f → Lies lo hi (node (number_of f))) →
-    Spans lo hi Anything v → Spans lo hi Anything (variables.kept k o v)
+pub kept-spans : {old : Start} {Q : variables.VariableParts → Type 0} (k : Known) (o : Option TypeStop) (v : Verdict variables.VariableParts) (lo hi : ℕ) → ((f : TypeStop) → o ≡ Some f → Lies lo hi (node (number_of f))) →
+    Spans old lo hi Q v → Spans old lo hi Q (variables.kept k o v)
 kept-spans known.Failed (Some f) v lo hi i h =
     let here = i f refl in
-    failed_with-spans f lo hi (failing v) (behind v) here.0 here.1 (behind-is v h) (failing-rises v h)
+    failed_with-spans f lo hi (failing v) (behind v) here.0 here.1 (behind-stands v h) (failing-rises v h)
 kept-spans known.Failed None v lo hi i h = ▷-spans v variables.depending h (λ x _. depends-stays)
 kept-spans known.Untold o v lo hi i h = h
 kept-spans known.Circular o v lo hi i h = h

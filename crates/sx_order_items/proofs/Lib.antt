@@ -5,6 +5,8 @@ pub mod Accessors
 pub mod Kept
 pub mod Variables
 pub mod Members
+pub mod Below
+pub mod Blames
 pub mod Items
 pub mod FaultPlaces
 pub mod Visits

@@ -1,6 +1,6 @@
--- A program whose declarations are settled: its faults rise, the first has the least number, and all lie among its nodes.
+-- A program whose declarations are settled: its faults rise, the first has the least number, and all lie among its nodes. So do the
+-- nodes of its functions.
 use Rattle.std.proofs.Common.{◌≡◌, ◌+◌, ◌≤◌, ℕ, List, [], All, Option, Some, None, is_some, length, map, slice_get, sym, subst, ap, arith}
-use Rattle.sx_span.specs.declared.places.Node.{Node}
 use Rattle.sx_tree.specs.declared.code.Expr.{Expr}
 use Rattle.sx_tree.specs.declared.declarations.Item.{Item}
 use Rattle.sx_tree.specs.Nodes.{all_places}
@@ -14,14 +14,16 @@ use Rattle.sx_tables.specs.declared.names.SpecialNames.{SpecialNames}
 use Rattle.sx_tables.specs.Names.{no_numbers}
 use Rattle.sx_functions.specs.declared.accessing.OwnNames.{OwnNames}
 use Rattle.sx_settle.specs.Settled.{Giving, Settling, giving_items, settled, unsettled}
+use Rattle.sx_check_decl.specs.declared.items.Blame.TheVariants as blames
 use Rattle.sx_check_decl.specs.declared.items.Settled.{Settled}
 use Rattle.sx_check_decl.specs.Checked.{IsSettled, declared, outline, type_meant}
 use Rattle.sx_check_decl.specs.Items.{program}
-use Rattle.sx_check_decl.specs.Looks.{judged, plain, unless_told}
+use Rattle.sx_check_decl.specs.Looks.{judged, judged_again, plain, unless_told}
 use Rattle.sx_check_decl.specs.declared.items.Program.{Program}
-use Rattle.sx_order.specs.Order.{Lies, Spans, Anything, number_of}
+use Rattle.sx_order.specs.Order.{FunctionsRise, Lies, Start, starting, Stands, Spans, number_of}
 use Rattle.sx_order.proofs.Spans.{first-is-least}
 use Rattle.sx_order_code.specs.Code.{CodeSpans}
+use Rattle.sx_order_items.specs.Below.{ProgramBelow}
 use Rattle.sx_order_items.specs.Stops.{GivenStops, ItemsStop, StopsLie}
 use Rattle.sx_order_items.specs.Written.{NoInitialisers}
 use Rattle.sx_order_items.proofs.Items.{program-spans}
@@ -37,7 +39,7 @@ none-lie gs i g there = by g.value
     by (Some e) = λ f q. absurd (nothing f q)
 
 -- one of two looks
-unless_told-spans : (lo hi : ℕ) (v again : Verdict Program) → Spans lo hi Anything v → Spans lo hi Anything again → Spans lo hi Anything (unless_told v again)
+unless_told-spans : {old : Start} {Q : Program → Type 0} (lo hi : ℕ) (v again : Verdict Program) → Spans old lo hi Q v → Spans old lo hi Q again → Spans old lo hi Q (unless_told v again)
 unless_told-spans lo hi (typed p w) again first second = first
 unless_told-spans lo hi (untold w) again first second = second
 unless_told-spans lo hi (depends w) again first second = second
@@ -60,12 +62,24 @@ module _ (codes : (d : Declarations) → CodeSpans d) (s : SpecialNames) (is : L
       items-stop (type_meant s is) x.stops whole lie is nothing_visited no_numbers (λ j. let start : j ≡ j + 0 = omega arith in ap (slice_get whole) start)
 
   module _ (names : OwnNames) (none : NoInitialisers is) where
-    pub judged-spans : Spans 0 (length (all_places is)) Anything (judged x names is)
+    pub judged-spans : Spans (starting [] 0) 0 (length (all_places is)) (ProgramBelow (length (all_places is))) (judged x names is)
     judged-spans =
-        unless_told-spans 0 (length (all_places is)) (program (plain x) names is) (program x names is)
-        (program-spans (plain x) (codes (plain x).declarations) names is plain-stops none)
-        (program-spans x (codes x.declarations) names is settled-stops none)
+        unless_told-spans 0 (length (all_places is)) (program (plain x) names blames.Others is) (judged_again x names is)
+        (program-spans (plain x) (codes (plain x).declarations) names blames.Others is plain-stops none)
+        (unless_told-spans 0 (length (all_places is)) (program x names blames.Others is) (program x names blames.Itself is)
+        (program-spans x (codes x.declarations) names blames.Others is settled-stops none)
+        (program-spans x (codes x.declarations) names blames.Itself is settled-stops none))
 
     -- the first fault is one of the program's nodes, and none has a lesser number
     pub first-fault : (f : TypeStop) (fs : List TypeStop) (w : Walk) → judged x names is ≡ fails f fs w → Lies 0 (length (all_places is)) (node (number_of f)) × All (λ g. number_of f ≤ number_of g) fs
-    first-fault f fs w e = first-is-least f fs w (subst (Spans 0 (length (all_places is)) Anything) e judged-spans)
+    first-fault f fs w e = first-is-least f fs w (subst (Spans (starting [] 0) 0 (length (all_places is)) (ProgramBelow (length (all_places is)))) e judged-spans)
+
+    -- the functions of a typed program rise, each at one of its nodes
+    pub judged-functions : (p : Program) (w : Walk) → judged x names is ≡ typed p w → FunctionsRise 0 (length (all_places is)) w.literals
+    judged-functions p w e =
+        let stands : Stands (starting [] 0) (length (all_places is)) w = (subst (Spans (starting [] 0) 0 (length (all_places is)) (ProgramBelow (length (all_places is)))) e judged-spans).holds.0 in
+        subst (FunctionsRise 0 (length (all_places is))) (sym stands.grows.grown) stands.grows.rise
+
+    -- its statements start, and its globals are declared, at its nodes
+    pub typed-below : (p : Program) (w : Walk) → judged x names is ≡ typed p w → ProgramBelow (length (all_places is)) p
+    typed-below p w e = (subst (Spans (starting [] 0) 0 (length (all_places is)) (ProgramBelow (length (all_places is)))) e judged-spans).holds.1

@@ -13,7 +13,8 @@ use Rattle.sx_members.specs.Variables.{VariableParts, given_value, stop_of}
 use Rattle.sx_settle.specs.declared.taking.Taking.{Taking}
 use Rattle.sx_settle.specs.declared.taking.Taking.TheVariants as takings
 use Rattle.sx_settle.specs.Settled.{Giving, Settling, enough, judged_again, round_from, rounds, settled, settled_certainly, settled_one, stays, told_by, unsettled, with_failed}
-use Rattle.sx_order.specs.Order.{Lies, number_of, Spans, Anything}
+use Rattle.sx_order.specs.Order.{Lies, number_of, Start, Spans, Anything}
+use Rattle.sx_order.proofs.Spans.{anything}
 use Rattle.sx_order_code.specs.Code.{CodeSpans}
 use Rattle.sx_order_items.specs.Stops.{FollowsAt, GivenStops, StopsLie}
 use Rattle.sx_order_items.proofs.Variables.{given_value-spans}
@@ -68,12 +69,12 @@ module _ (gs : List Giving) (i : ℕ) (g : Giving) (x : Expr) (there : slice_get
           subst (λ (z : Giving). Lies z.node.0 (length (expr_places e) + suc z.node.0) (node (number_of f))) (sym one)
           (subst (λ (y : Expr). Lies g.node.0 (length (expr_places y) + suc g.node.0) (node (number_of f))) (sym both) (k f is))
 
-  pub failed-lies : (f : TypeStop) (fs : List TypeStop) (w : Walk) (s : Settling) → Spans {A = VariableParts} g.node.0 (length (expr_places x) + suc g.node.0) Anything (fails f fs w) → StopsLie gs s.stops → StopsLie gs (slice_set s.stops i (Some f))
+  pub failed-lies : {old : Start} (f : TypeStop) (fs : List TypeStop) (w : Walk) (s : Settling) → Spans {A = VariableParts} old g.node.0 (length (expr_places x) + suc g.node.0) Anything (fails f fs w) → StopsLie gs s.stops → StopsLie gs (slice_set s.stops i (Some f))
   failed-lies f fs w s a h =
       told-lies (Some f) s.stops h
       (λ k e. let same : k ≡ f = cc in subst (λ (z : TypeStop). Lies g.node.0 (length (expr_places x) + suc g.node.0) (node (number_of z))) (sym same) (a.holds.1.0, a.holds.1.1))
 
-  pub told_by-lies : (q : Taking) (v : Verdict VariableParts) (s : Settling) → Spans g.node.0 (length (expr_places x) + suc g.node.0) Anything v → StopsLie gs s.stops → StopsLie gs (told_by q i v s).stops
+  pub told_by-lies : {old : Start} (q : Taking) (v : Verdict VariableParts) (s : Settling) → Spans old g.node.0 (length (expr_places x) + suc g.node.0) Anything v → StopsLie gs s.stops → StopsLie gs (told_by q i v s).stops
   told_by-lies q (typed y w) s a h = told-lies None s.stops h (λ f e. cc)
   told_by-lies q (untold w) s a h = h
   told_by-lies takings.Certain (depends w) s a h = h
@@ -87,8 +88,9 @@ module _ (codes : (d : Declarations) → CodeSpans d) (gs : List Giving) where
   pub judged_again-lies : (q : Taking) (i : ℕ) (g : Giving) (o : Option Expr) (s : Settling) → slice_get gs i ≡ Some g → g.value ≡ o → StopsLie gs s.stops → StopsLie gs (judged_again q i g.node o s).stops
   judged_again-lies q i g None s there value h = h
   judged_again-lies q i g (Some x) s there value h =
-      told_by-lies gs i g x there value q (given_value s.declarations g.node x (at (suc g.node.0))) s
-      (given_value-spans s.declarations (codes s.declarations) g.node x g.node.0 (length (expr_places x) + suc g.node.0) (at (suc g.node.0)) refl refl refl) h
+      let v : Verdict VariableParts = given_value s.declarations g.node x (at (suc g.node.0)) in
+      told_by-lies gs i g x there value q v s
+      (anything v (given_value-spans s.declarations (codes s.declarations) g.node x g.node.0 (length (expr_places x) + suc g.node.0) (at (suc g.node.0)) refl refl refl)) h
 
   pub unless-lies : (b : Bool) (q : Taking) (i : ℕ) (g : Giving) (s : Settling) → slice_get gs i ≡ Some g → StopsLie gs s.stops → StopsLie gs (cond b s (judged_again q i g.node g.value s)).stops
   unless-lies true q i g s there h = h

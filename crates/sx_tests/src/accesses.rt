@@ -104,7 +104,7 @@ fn two_observers(alloc: Global) -> Result<Typed, AllocError> {
     let plain = did_set(alloc, Node(3), Items::new(alloc));
     let given = did_set(alloc, Node(8), old_value(alloc, Node(8))?);
     let functions = pair(alloc, plain, given)?;
-    Ok(program(alloc, functions, Items::new(alloc)))
+    Ok(program(alloc, Items::new(alloc), functions, Items::new(alloc)))
 }
 
 fn has(typed: &Typed, node: Node) -> bool {

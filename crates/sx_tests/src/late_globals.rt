@@ -9,7 +9,8 @@ use std::alloc::{AllocError, Global};
 use sx_late::{LateReach, late};
 use sx_span::Node;
 use sx_typed::{
-    Block, Expr, Form, Function, FunctionKind, GlobalMention, Statement, StatementForm, Typed,
+    Block, Expr, Form, Function, FunctionKind, Global as StoredGlobal, GlobalMention, Statement,
+    StatementForm, Typed,
 };
 use sx_types::Ty;
 
@@ -61,10 +62,28 @@ fn top(alloc: Global) -> Result<Block, AllocError> {
     Ok(top)
 }
 
+fn stored(node: u32, name: u32) -> StoredGlobal {
+    StoredGlobal {
+        node: Node(node),
+        name,
+        ty: Ty::Int,
+        constant: true,
+    }
+}
+
+// The two globals.
+fn globals(alloc: Global) -> Result<Items<StoredGlobal>, AllocError> {
+    let mut globals = Items::new(alloc);
+    globals.push(stored(1, 0))?;
+    globals.push(stored(2, 1))?;
+    Ok(globals)
+}
+
 // The program whose function gives the value of the global.
 fn reaching(alloc: Global, number: u32) -> Result<Typed, AllocError> {
+    let globals = globals(alloc)?;
     let functions = functions(alloc, number)?;
-    Ok(program(alloc, functions, top(alloc)?))
+    Ok(program(alloc, globals, functions, top(alloc)?))
 }
 
 fn is_at(found: Option<LateReach>, statement: usize, global: u32) -> bool {

@@ -4,3 +4,4 @@ pub mod Least
 pub mod Readings
 pub mod SameTrees
 pub mod Answers
+pub mod Placed

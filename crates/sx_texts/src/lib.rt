@@ -3,4 +3,4 @@
 
 mod laws;
 
-pub use laws::{answers_agree, first_fault_is_least, texts_have_no_initialisers};
+pub use laws::{answers_agree, faults_are_told, first_fault_is_least, texts_have_no_initialisers};

@@ -1,6 +1,6 @@
 use Rattle.std.proofs.Common.{map, refl, sym, ap, ◌∙◌}
 use Rattle.sx_check_decl.specs.Looks.{without_circle}
-use Rattle.sx_check_decl.proofs.TwoLooks.{first_look, second_look}
+use Rattle.sx_check_decl.proofs.LookingAgain.{first_look, second_look}
 use Rattle.sx_check_decl.proofs.looks.judge_program.Goals as goal
 
 pub returns : goal.returns
@@ -10,7 +10,7 @@ returns c =
     let none = c.replace-stops.ensures.after ∙ c.new.ensures in
     let first = first_look x c.args.own c.args.items.now c.replace-given.new.dest c.replace-stops.new.dest c.args.walk.now known none c.requires in
     record {
-      judged = second_look x c.args.own c.args.items.now c.replace-given.result c.replace-stops.result c.in_ok-program.field-0 c.judge_items.new.walk c.at_start.result c.judge_items-2.new.walk c.judge_items-2.result
-          c.replace-given.ensures.value c.replace-stops.ensures.value c.in_default.not-Typed (sym first ∙ c.in_ok-program.ensures) c.at_start.ensures c.judge_items-2.ensures;
+      judged = second_look x c.args.own c.args.items.now c.replace-given.result c.replace-stops.result c.in_ok-program.field-0 c.judge_items.new.walk c.judge_again.new.walk c.judge_again.result
+          c.replace-given.ensures.value c.replace-stops.ensures.value c.in_default.not-Typed (sym first ∙ c.in_ok-program.ensures) c.judge_again.ensures;
       types = refl;
     }
