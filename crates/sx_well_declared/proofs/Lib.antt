@@ -6,3 +6,5 @@ pub mod Accessors
 pub mod Variables
 pub mod Subscripts
 pub mod Members
+pub mod Items
+pub mod Programs

@@ -1,17 +1,20 @@
--- Each declaration is judged typed so exactly where the rules derive this.
-use Rattle.std.specs.Prelude.{◌≡◌, ℕ, Bool, false, List, Option, None}
+-- Each declaration and each program is judged typed so exactly where the rules derive this.
+use Rattle.std.specs.Prelude.{◌≡◌, ℕ, Bool, false, List, Option, None, Ok}
 use Rattle.sx_tree.specs.declared.code.Block.{Block}
 use Rattle.sx_tree.specs.declared.declarations.Accessor.{Accessor}
 use Rattle.sx_tree.specs.declared.declarations.Function.{Function}
+use Rattle.sx_tree.specs.declared.declarations.Item.{Item}
 use Rattle.sx_tree.specs.declared.declarations.Member.{Member}
 use Rattle.sx_tree.specs.declared.declarations.Parameter.{Parameter}
 use Rattle.sx_tree.specs.declared.declarations.Subscript.{Subscript}
 use Rattle.sx_tree.specs.declared.declarations.TypeDeclaration.{TypeDeclaration as WrittenDeclaration}
 use Rattle.sx_tree.specs.declared.declarations.Variable.{Variable}
+use Rattle.sx_tree.specs.declared.tree.Tree.{Tree}
 use Rattle.sx_tree.specs.declared.written_types.WrittenType.{WrittenType}
 use Rattle.sx_types.specs.declared.types.Ty.{Ty}
 use Rattle.sx_typed.specs.declared.code.Statement.{Statement}
 use Rattle.sx_typed.specs.declared.program.TypeDeclaration.{TypeDeclaration}
+use Rattle.sx_typed.specs.declared.program.Typed.{Typed}
 use Rattle.sx_scope.specs.declared.declarations.Declarations.{Declarations}
 use Rattle.sx_scope.specs.declared.stop.TypeStop.{TypeStop}
 use Rattle.sx_scope.specs.declared.walk.Place.{Place}
@@ -22,6 +25,7 @@ use Rattle.sx_check_expr.specs.Judge.{judged_block}
 use Rattle.sx_heads.specs.declared.parameters.HeadParameter.{HeadParameter}
 use Rattle.sx_heads.specs.declared.parameters.ParameterList.{ParameterList}
 use Rattle.sx_heads.specs.Heads.{checked_head}
+use Rattle.sx_tables.specs.declared.names.Numbers.{Numbers}
 use Rattle.sx_functions.specs.declared.accessing.Accessed.{Accessed}
 use Rattle.sx_functions.specs.declared.accessing.OwnNames.{OwnNames}
 use Rattle.sx_functions.specs.Accessors.{accessor, run_accessors}
@@ -32,6 +36,13 @@ use Rattle.sx_members.specs.declared.types.TypeFault.{TypeFault}
 use Rattle.sx_members.specs.declared.variables.TypedVariable.{TypedVariable}
 use Rattle.sx_members.specs.Members.{Before, member, run_members, subscript, type_declaration}
 use Rattle.sx_members.specs.Variables.{variable}
+use Rattle.sx_check_decl.specs.declared.items.Blame.{Blame}
+use Rattle.sx_check_decl.specs.declared.items.Program.{Program}
+use Rattle.sx_check_decl.specs.declared.items.Settled.{Settled}
+use Rattle.sx_check_decl.specs.declared.items.TypedItem.{TypedItem}
+use Rattle.sx_check_decl.specs.Items.{item, run_items}
+use Rattle.sx_check_decl.specs.Looks.{judged}
+use Rattle.sx_check_decl.specs.Program.{Checked}
 use Rattle.sx_well_declared.specs.Bodies.{BodyTyped}
 use Rattle.sx_well_declared.specs.Heads.{HeadDeclared}
 use Rattle.sx_well_declared.specs.Functions.{FunctionDeclared}
@@ -39,6 +50,8 @@ use Rattle.sx_well_declared.specs.Accessors.{AccessorDeclared, AccessorsDeclared
 use Rattle.sx_well_declared.specs.Variables.{VariableDeclared}
 use Rattle.sx_well_declared.specs.Subscripts.{SubscriptDeclared}
 use Rattle.sx_well_declared.specs.Members.{MemberDeclared, MembersDeclared, TypeDeclared}
+use Rattle.sx_well_declared.specs.Items.{ItemDeclared, ItemsDeclared}
+use Rattle.sx_well_declared.specs.Programs.{ProgramDeclared, TreeDeclared}
 
 -- the body of a function or accessor, which then doesn't lack a `return`
 pub record FunctionBodiesAreDerived : Type 0 where
@@ -94,3 +107,24 @@ pub record TypesAreDerived : Type 0 where
       TypeDeclared d names seen f k t x w y v → type_declaration d names stops seen f k t x w ≡ typed y v
   pub complete : (d : Declarations) (names : OwnNames) (stops : List (Option TypeStop)) (seen : List ℕ) (f : Option TypeFault) (k : ℕ) (t : Ty) (x : WrittenDeclaration) (w v : Walk) (y : TypeDeclaration) →
       type_declaration d names stops seen f k t x w ≡ typed y v → TypeDeclared d names seen f k t x w y v
+
+-- an item, and items one after another, whatever is to blame where one isn't typed
+pub record ItemsAreDerived : Type 0 where
+  pub sound : (x : Settled) (names : OwnNames) (seen : List ℕ) (k : Numbers) (words : Option ℕ) (i : Item) (w v : Walk) (t : TypedItem) →
+      ItemDeclared x names seen k words i w t v → item x names seen k words i w ≡ typed t v
+  pub complete : (x : Settled) (names : OwnNames) (seen : List ℕ) (k : Numbers) (words : Option ℕ) (i : Item) (w v : Walk) (t : TypedItem) →
+      item x names seen k words i w ≡ typed t v → ItemDeclared x names seen k words i w t v
+  pub all_sound : (x : Settled) (names : OwnNames) (b : Blame) (seen : List ℕ) (k : Numbers) (words : Option ℕ) (is : List Item) (before p : Program) (w v : Walk) →
+      ItemsDeclared x names seen k words is before w p v → run_items x names b (typed before w) seen k words is ≡ typed p v
+  pub all_complete : (x : Settled) (names : OwnNames) (b : Blame) (seen : List ℕ) (k : Numbers) (words : Option ℕ) (is : List Item) (before p : Program) (w v : Walk) →
+      run_items x names b (typed before w) seen k words is ≡ typed p v → ItemsDeclared x names seen k words is before w p v
+
+-- a program
+pub record ProgramsAreDerived : Type 0 where
+  pub sound : (x : Settled) (names : OwnNames) (is : List Item) (p : Program) (v : Walk) → ProgramDeclared x names is p v → judged x names is ≡ typed p v
+  pub complete : (x : Settled) (names : OwnNames) (is : List Item) (p : Program) (v : Walk) → judged x names is ≡ typed p v → ProgramDeclared x names is p v
+
+-- the typed tree of a tree
+pub record TreesAreDerived : Type 0 where
+  pub sound : (tree : Tree) (t : Typed) → TreeDeclared tree t → Checked tree (Ok t)
+  pub complete : (tree : Tree) (t : Typed) → Checked tree (Ok t) → TreeDeclared tree t

@@ -5,4 +5,6 @@ pub mod Accessors
 pub mod Variables
 pub mod Subscripts
 pub mod Members
+pub mod Items
+pub mod Programs
 pub mod Laws

@@ -1,6 +1,6 @@
-// Laws of declarations.
+// Laws of declarations and programs.
 
-ghost use Rattle.sx_well_declared.specs.Laws.{AccessorsAreDerived, FunctionBodiesAreDerived, FunctionsAreDerived, HeadsAreDerived, MembersAreDerived, SubscriptsAreDerived, TypesAreDerived, VariablesAreDerived};
+ghost use Rattle.sx_well_declared.specs.Laws.{AccessorsAreDerived, FunctionBodiesAreDerived, FunctionsAreDerived, HeadsAreDerived, ItemsAreDerived, MembersAreDerived, ProgramsAreDerived, SubscriptsAreDerived, TreesAreDerived, TypesAreDerived, VariablesAreDerived};
 
 /// A law: the body of a function or accessor is judged typed, and lacks no `return`, exactly where the
 /// rules derive this. It does nothing.
@@ -46,4 +46,21 @@ pub fn members_are_derived()
 /// does nothing.
 pub fn types_are_derived()
     ensures { TypesAreDerived }
+{}
+
+/// A law: an item of a program is judged typed exactly where the rules derive this, and so are items
+/// one after another. It does nothing.
+pub fn items_are_derived()
+    ensures { ItemsAreDerived }
+{}
+
+/// A law: a program is judged typed exactly where the rules derive this. It does nothing.
+pub fn programs_are_derived()
+    ensures { ProgramsAreDerived }
+{}
+
+/// A law: a tree is answered by this typed tree exactly where the rules derive that it has it. It does
+/// nothing.
+pub fn trees_are_derived()
+    ensures { TreesAreDerived }
 {}
