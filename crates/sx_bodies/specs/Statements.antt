@@ -153,12 +153,6 @@ type_by (Some t) e = t
 abbrev pub declared_with : Node → Unit {0} × (Option Ty × Expr) → Judging Expr
 declared_with n (u, (t, e)) = need (not (is_void (type_by t e))) kind.Mismatch n (typed e)
 
-abbrev pub type_of : Verdict Expr → Known
-type_of (typed e w) = known.Type e.ty
-type_of (untold w) = known.Untold
-type_of (depends w) = known.Failed
-type_of (fails f fs w) = known.Failed
-
 abbrev pub local_kind_of : Bool → LocalKind
 local_kind_of true = local_kind.Constant
 local_kind_of false = local_kind.Variable
@@ -182,13 +176,34 @@ abbrev pub local_value : Declarations → Place → ℕ → Bool → Judging (Op
 local_value d p x written ty e n w =
     both (fresh d p.outside_block x n w) (λ w. both_by (ty w ▷ not_void_written n) (λ t. e.value (giving_in p written n) (asked_by_written t) uses.Kept)) ▷ declared_with n
 
+-- the written type of a local, where it stands
+abbrev pub stated_type : Verdict (Option Ty) → Option Ty
+stated_type (typed t w) = t
+stated_type (untold w) = None
+stated_type (depends w) = None
+stated_type (fails f fs w) = None
+
+abbrev pub local_stated : Declarations → Place → ℕ → Judging (Option Ty) → Node → Walk → Option Ty
+local_stated d p x ty n w = cond (is_fresh d p.outside_block x w) (stated_type (ty w ▷ not_void_written n)) None
+
+-- A written type stands, whatever the value depends on: a local hangs on its value only where the value gives its type.
+abbrev pub written_known : Option Ty → Known → Known
+written_known None k = k
+written_known (Some t) k = known.Type t
+
+abbrev pub known_local : Option Ty → Verdict Expr → Known
+known_local t (typed e w) = known.Type e.ty
+known_local t (untold w) = written_known t known.Untold
+known_local t (depends w) = written_known t known.Failed
+known_local t (fails f fs w) = written_known t known.Failed
+
 -- a declaration of a block; its name comes into scope behind it
-abbrev pub declares : Place → ℕ → Bool → Node → Verdict Expr → Verdict Expr
-declares p x constant n v = moved (unless_taken p.outside_block (local_named x n (local_kind_of constant) false (type_of v))) v
+abbrev pub declares : Place → ℕ → Bool → Node → Option Ty → Verdict Expr → Verdict Expr
+declares p x constant n t v = moved (unless_taken p.outside_block (local_named x n (local_kind_of constant) false (known_local t v))) v
 
 abbrev pub local_statement : Declarations → Bool → ℕ → ℕ → Bool → Judging (Option Ty) → JudgedExpr → Place → Judging Statement
 local_statement d constant x site written ty e p =
-    numbered (λ n w. declares p x constant n (local_value d p x written ty e n w) ▷ declared_local constant n x site)
+    numbered (λ n w. declares p x constant n (local_stated d p x ty n w) (local_value d p x written ty e n w) ▷ declared_local constant n x site)
 
 -- ---- assignments
 abbrev pub asked_of_left : Assignment → Asked

@@ -131,14 +131,34 @@ fn is_void_option(written: Option<Ty>) -> bool
     }
 }
 
-/// What is known of the type of a local, by what is found at its initial value.
-pub fn known_type(value: &Found<Expr>) -> Known
-    ensures { (w : _) → result ≡ statements.type_of (found value.now w) }
+/// The written type of a local, where it stands.
+pub fn stated_type(written: &Found<Option<Ty>>) -> Option<Ty>
+    ensures { (w : _) → result ≡ statements.stated_type (found written.now w) }
+{
+    match written {
+        Found::Typed(ty) => *ty,
+        Found::Untold | Found::Depends => None,
+    }
+}
+
+/// What is known of the type of a local, by its written type and what is found at its initial value.
+/// A written type stands, whatever the value depends on.
+pub fn known_local(written: Option<Ty>, value: &Found<Expr>) -> Known
+    ensures { (w : _) → result ≡ statements.known_local written (found value.now w) }
 {
     match value {
         Found::Typed(value) => Known::Type(value.ty),
-        Found::Untold => Known::Untold,
-        Found::Depends => Known::Failed,
+        Found::Untold => written_known(written, Known::Untold),
+        Found::Depends => written_known(written, Known::Failed),
+    }
+}
+
+fn written_known(written: Option<Ty>, known: Known) -> Known
+    ensures { result ≡ statements.written_known written known }
+{
+    match written {
+        Some(ty) => Known::Type(ty),
+        None => known,
     }
 }
 

@@ -1,4 +1,5 @@
 pub mod Equations
+pub mod FreshLocals
 pub mod LastStatements
 pub mod Moved
 pub mod Parts

@@ -13,7 +13,7 @@ use Rattle.sx_scope.specs.Verdict.{Verdict, typed, Judging, ◌▷◌, both, bot
 use Rattle.sx_scope.specs.Walks.{with_local}
 use Rattle.sx_scope.specs.WrittenTypes.{is_void}
 use Rattle.sx_calls.specs.Parts.{JudgedExpr}
-use Rattle.sx_bodies.specs.Statements.{statement, is_taken, local_named, unless_taken, is_fresh, fresh, asked_by_written, giving_in, type_by, declared_with, type_of, local_kind_of, local_form, declared_local, is_void_option, not_void_written, local_value, declares, local_statement}
+use Rattle.sx_bodies.specs.Statements.{statement, is_taken, local_named, unless_taken, is_fresh, fresh, asked_by_written, giving_in, type_by, declared_with, known_local, local_kind_of, local_form, declared_local, is_void_option, not_void_written, local_stated, local_value, declares, local_statement}
 use Rattle.sx_order.specs.Order.{Lies, since, Keeps, Spans, Stays, Takes, Anything, Anywhere}
 use Rattle.sx_order.specs.Parts.{SpansExpr}
 use Rattle.sx_order.proofs.Growing.{reaches-first}
@@ -56,10 +56,11 @@ module _ (d : Declarations) where
 
   pub local_statement-takes : (constant : Bool) (x site : ℕ) (written : Bool) (ty : Judging (Option Ty)) (e : JudgedExpr) (k j : ℕ) (p : Place) → Takes k Anywhere ty → SpansExpr j e → Takes (suc (k + j)) Anywhere (local_statement d constant x site written ty e p)
   local_statement-takes constant x site written ty e k j p t h =
-      numbered-takes Anywhere (k + j) (λ n w. declares p x constant n (local_value d p x written ty e n w) ▷ declared_local constant n x site)
+      numbered-takes Anywhere (k + j) (λ n w. declares p x constant n (local_stated d p x ty n w) (local_value d p x written ty e n w) ▷ declared_local constant n x site)
       (λ lo hi n at sum w f.
       let v : Verdict Expr = local_value d p x written ty e n w in
-      ▷-spans (declares p x constant n v) (declared_local constant n x site)
-      (moved-spans (unless_taken p.outside_block (local_named x n (local_kind_of constant) false (type_of v))) v (λ u. unless_taken-next p.outside_block (local_named x n (local_kind_of constant) false (type_of v)) u)
+      let s : Option Ty = local_stated d p x ty n w in
+      ▷-spans (declares p x constant n s v) (declared_local constant n x site)
+      (moved-spans (unless_taken p.outside_block (local_named x n (local_kind_of constant) false (known_local s v))) v (λ u. unless_taken-next p.outside_block (local_named x n (local_kind_of constant) false (known_local s v)) u)
       (local_value-spans p x written ty e k j lo hi n w at sum f t h))
       (λ y _. declared_local-stays constant n x site y))

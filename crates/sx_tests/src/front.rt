@@ -74,3 +74,13 @@ fn circles_of_initial_values_come_last(rt: HostRuntime) {
     let text = b"struct S { var x = S().x }\nlet a = b\nlet b = a";
     is_refused(&rt, alloc, text, TypeKind::NeedsType, 35);
 }
+
+#[test]
+fn a_written_type_stands_whatever_the_value_depends_on(rt: HostRuntime) {
+    let alloc = rt.alloc();
+    let text = b"struct S { func m() { var a: Int = S(); a = true }\nvar z = {} }";
+    is_refused(&rt, alloc, text, TypeKind::Mismatch, 44);
+    // A type that the value gives falls with it.
+    let text = b"struct S { func m() { var a = S(); a = true }\nvar z = {} }";
+    is_refused(&rt, alloc, text, TypeKind::NoContext, 54);
+}

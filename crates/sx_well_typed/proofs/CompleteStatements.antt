@@ -30,7 +30,7 @@ use Rattle.sx_scope.specs.Paths.{modifiable}
 use Rattle.sx_scope.specs.WrittenTypes.{is_void, judged_option}
 use Rattle.sx_calls.specs.Parts.{JudgedExpr, JudgedStatement}
 use Rattle.sx_bodies.specs.Statements as bodies
-use Rattle.sx_bodies.specs.Statements.{asked_by_written, asked_of_left, asked_of_right, asked_to_give, assigned, assigned_form, assignable, declared_local, declared_with, declares, fresh, giving_in, has_value, if_made, in_loop, is_fresh, is_void_option, local_form, local_kind_of, local_named, local_value, not_void_written, return_alone, return_with, returned, type_by, type_of, unless_taken, while_made}
+use Rattle.sx_bodies.specs.Statements.{asked_by_written, asked_of_left, asked_of_right, asked_to_give, assigned, assigned_form, assignable, declared_local, declared_with, declares, fresh, giving_in, has_value, if_made, in_loop, is_fresh, is_void_option, known_local, local_form, local_kind_of, local_named, local_stated, local_value, not_void_written, return_alone, return_with, returned, type_by, unless_taken, while_made}
 use Rattle.sx_check_expr.specs.Judge.{judged_block, judged_else, judged_expr, judged_statement, else_step, statement_form_step}
 use Rattle.sx_well_typed.specs.Claims.{Claim}
 use Rattle.sx_well_typed.specs.Rules.{may_give_none, Typed}
@@ -157,9 +157,10 @@ module _ (d : Declarations) where
       let written : Judging (Option Ty) = λ w. judged_option d l.ty w ▷ not_void_written n in
       let second : Judging (Option Ty × TypedExpr) = λ w. both_by (written w) value in
       let whole : Verdict TypedExpr = local_value d p y (is_some l.ty) (judged_option d l.ty) (judged_expr d l.value) n here in
-      let run : declares p y c n whole ▷ declared_local c n y site ≡ typed t v = ap (λ (j : ℕ → JudgedStatement). (j site).value p w) (sym (local_is d l)) ∙ h in
-      let (x, w₄, declared, made) = then-inverted (declares p y c n whole) (declared_local c n y site) t v run in
-      let (w₃, is, behind) = moved-inverted (unless_taken p.outside_block (local_named y n (local_kind_of c) false (type_of whole))) whole x w₄ declared in
+      let stated : Option Ty = local_stated d p y (judged_option d l.ty) n here in
+      let run : declares p y c n stated whole ▷ declared_local c n y site ≡ typed t v = ap (λ (j : ℕ → JudgedStatement). (j site).value p w) (sym (local_is d l)) ∙ h in
+      let (x, w₄, declared, made) = then-inverted (declares p y c n stated whole) (declared_local c n y site) t v run in
+      let (w₃, is, behind) = moved-inverted (unless_taken p.outside_block (local_named y n (local_kind_of c) false (known_local stated whole))) whole x w₄ declared in
       let (z, w₂, all, kept) = then-inverted (both (fresh d p.outside_block y n here) second) (declared_with n) x w₃ is in
       let e = need-inverted (not (is_void (type_by z.1.0 z.1.1))) kind.Mismatch n (typed z.1.1) w₂ x w₃ kept in
       let (w₀, new, others) = both_by-inverted (fresh d p.outside_block y n here) (λ _. second) z w₂ all in
@@ -171,7 +172,7 @@ module _ (d : Declarations) where
       let first' : judged_option d l.ty here ≡ typed z.1.0 w₁ = first ∙ g.1 in
       let not_void : is_void_option z.1.0 ≡ false = ap is_void_option (sym (same-part o z.1.0 u₁ w₁ g.1)) ∙ is-not (is_void_option o) g.0 in
       let whole-is : whole ≡ typed z.1.1 w₂ = is ∙ sym e.1 in
-      let result : declares p y c n (typed z.1.1 w₂) ▷ declared_local c n y site ≡ typed t v = ap (λ r. declares p y c n r ▷ declared_local c n y site) (sym whole-is) ∙ run in
+      let result : declares p y c n stated (typed z.1.1 w₂) ▷ declared_local c n y site ≡ typed t v = ap (λ r. declares p y c n stated r ▷ declared_local c n y site) (sym whole-is) ∙ run in
       typed-as (λ t v. Typed d (Claim.local l site p w t v)) (bodies.statement site (local_form c n y z.1.1)) t (unless_taken p.outside_block (local_named y n (local_kind_of c) false (known.Type z.1.1.ty)) w₂) v result
       (Typed.a_local l site p w w₁ w₂ z.1.0 z.1.1 f.0 first' not_void (k (giving_in p (is_some l.ty) n) (asked_by_written (Some z.1.0)) uses.Kept w₁ z.1.1 w₂ valued) (is-not (is_void (type_by z.1.0 z.1.1)) e.0))
 

@@ -37,7 +37,7 @@ use Rattle.sx_scope.specs.Paths.{modifiable}
 use Rattle.sx_scope.specs.WrittenTypes.{is_void, judged_option}
 use Rattle.sx_calls.specs.Parts.{JudgedExpr, JudgedStatement}
 use Rattle.sx_bodies.specs.Statements as bodies
-use Rattle.sx_bodies.specs.Statements.{asked_by_written, asked_of_left, asked_of_right, asked_to_give, assigned, assigned_form, assignable, declared_local, declared_with, declares, fresh, giving_in, has_value, if_made, in_loop, is_fresh, is_void_option, leaving, local_form, local_kind_of, local_named, local_value, not_void_written, return_alone, return_with, returned, type_by, unless_taken, while_made}
+use Rattle.sx_bodies.specs.Statements.{asked_by_written, asked_of_left, asked_of_right, asked_to_give, assigned, assigned_form, assignable, declared_local, declared_with, declares, fresh, giving_in, has_value, if_made, in_loop, is_fresh, is_void_option, leaving, local_form, local_kind_of, local_named, local_stated, local_value, not_void_written, return_alone, return_with, returned, type_by, unless_taken, while_made}
 use Rattle.sx_check_expr.specs.Judge.{judged_block, judged_else, judged_expr, judged_local, judged_statement, judged_statement_form, else_step, statement_form_step, local_step}
 use Rattle.sx_well_typed.specs.Claims.{Claim}
 use Rattle.sx_well_typed.specs.Rules.{may_give_none}
@@ -176,7 +176,7 @@ module _ (d : Declarations) where
       (both-typed (fresh d p.outside_block y i here) second tt here (o, x) w₂ new (both_by-typed (judged_option d l.ty here ▷ not_void_written i) value o w₁ x w₂ written k))
       (need-typed (not (is_void (type_by o x))) kind.Mismatch i (typed x) w₂ (typed x w₂) (ap not m) refl) in
       ap (λ (j : ℕ → JudgedStatement). (j site).value p w) (local_is l)
-      ∙ ap (λ r. declares p y l.constant i r ▷ declared_local l.constant i y site) whole
+      ∙ ap (λ r. declares p y l.constant i (local_stated d p y (judged_option d l.ty) i here) r ▷ declared_local l.constant i y site) whole
 
   -- ---- what follows the block of an `if`
   else-by : (x : OfParts Else-F) (e : Else) (p : Place) (w v : Walk) (ts : List TypedStatement) → roll-Else x ≡ e → bodies.else_block p (else_step d (judged_in_else d x)) w ≡ typed ts v → Holds d (Claim.otherwise e p w ts v)
